@@ -1,0 +1,28 @@
+-- `1 << n` in a u64 is 2 ^ n, and one less has just the bits below n.
+use mathlib.Core.Path.{_≡_, ap, _∙_}
+use Prim.Native.Nat.{ℕ, _≤_, _^_, _*_, _%_, _-_}
+use native.Mathlib.Nat.{one-mul}
+use native.Mathlib.Omega.{arith}
+use lib.Dec.{lit<}
+use lib.Pow.{shl-exact, pow-pos, pow-mono}
+use Rattle.mask.specs.Mask.{has}
+use Rattle.mask.specs.Bits.{has-ones}
+use Rattle.mask.specs.MaskLaws.{wide-shl}
+use borrow.Author.Needs.{needs}
+use Rattle.mask.proofs.below.Statement.{statement}
+use Rattle.mask.proofs.below.Tie as tie
+
+shl-result : tie.Need-shl-result
+shl-result c = search needs
+
+sub-result : tie.Need-sub-result
+sub-result c = omega (arith, wide-shl (c .args .n) (c .pre), pow-pos (c .args .n))
+
+cast-result : tie.Need-cast-result
+cast-result c = omega (arith, wide-shl (c .args .n) (c .pre), pow-pos (c .args .n), pow-mono (c .pre))
+
+returns : tie.Need-returns
+returns c = λ k. ap (λ (x : ℕ). has (x - 1) k) (wide-shl (c .args .n) (c .pre)) ∙ has-ones (c .args .n) k
+
+pub below-spec : {M : Type 1} → statement M
+below-spec = tie.close (tie.spec shl-result sub-result cast-result returns)

@@ -1,0 +1,73 @@
+-- The loop takes the lowest member off `left` and joins its row to a: the rows that m names are always those in a and those that
+-- `left` names. The measure is `left` itself, a smaller number with each member fewer.
+use mathlib.Core.Path.{_≡_, refl, sym, _∙_, subst}
+use mathlib.Core.Bool.{true}
+use Prim.Native.Nat.{ℕ, _<_, _^_}
+use native.Mathlib.Omega.{arith}
+use lib.ListN.{length}
+use Rattle.mask.specs.Mask.{has, lowest}
+use Rattle.mask.specs.MaskLaws.{lowest-has, fewer}
+use Rattle.mask.specs.Loops.{Gathering, gathering-start, gathering-turn, gathering-end}
+use borrow.Author.Needs.{needs}
+use Rattle.mask.proofs.gather.Statement.{statement}
+use Rattle.mask.proofs.gather.Tie as tie
+
+abbrev Inv-loop : tie.InvT-loop
+Inv-loop m rows left₀ a₀ left a = (left < 2 ^ 32) × (length rows ≡ 32) × Gathering rows m left a
+
+abbrev μ-loop : tie.MeasureT-loop
+μ-loop m rows left₀ a₀ left a = left
+
+loop-holds : tie.Need-loop-holds Inv-loop μ-loop
+loop-holds c = (search needs, search needs, gathering-start (c .args .t1) _)
+
+lowest-requires : tie.Need-lowest-requires Inv-loop μ-loop
+lowest-requires c κs = search needs
+
+-- the lowest member is one
+low : (c : tie.After-lowest Inv-loop μ-loop)
+    → (c .lowest .result < 32) × (has (c .before .before .loop .left) (c .lowest .result) ≡ true)
+low c =
+    rw (c .lowest .ensures) (lowest-has (c .before .before .loop .left) (c .before .before .loop .inv .0) (c .before .loop-test .taken))
+
+mul-a : tie.Need-mul-a Inv-loop μ-loop
+mul-a c = omega (arith, low c .0)
+
+array-read-a : tie.Need-array-read-a Inv-loop μ-loop
+array-read-a c = low c .0
+
+without-requires : tie.Need-without-requires Inv-loop μ-loop
+without-requires c κs = low c .0
+
+loop-less : tie.Need-loop-less Inv-loop μ-loop
+loop-less c =
+    fewer _ _ _ (c .before .before .before .loop .inv .0) (search needs) (low (c .before) .1) (c .without .ensures)
+
+loop-again : tie.Need-loop-again Inv-loop μ-loop
+loop-again c = (
+  search needs,
+  search needs,
+  gathering-turn (c .before .before .before .before .args .t1) _ _ _ _ _ (low (c .before) .0) (low (c .before) .1)
+      (c .without .ensures) (c .before .before .before .loop .inv .2),
+)
+
+returns : tie.Need-returns Inv-loop μ-loop
+returns c =
+    gathering-end (c .before .before .args .t1) _ _
+    (subst (λ (k : ℕ). Gathering (c .before .before .args .t1) (c .before .before .args .m) k (c .before .loop .a))
+    (c .loop-test .left) (c .before .loop .inv .2))
+
+pub gather-spec : {M : Type 1} → statement M
+gather-spec =
+    tie.close
+    (tie.spec
+    Inv-loop
+    μ-loop
+    loop-holds
+    lowest-requires
+    mul-a
+    array-read-a
+    without-requires
+    loop-less
+    loop-again
+    returns)

@@ -1,0 +1,19 @@
+-- The count of zeros below the lowest digit of a number of 32 digits is the least of its members.
+use mathlib.Core.Path.{_≡_, sym, subst}
+use Prim.Native.Nat.{ℕ, _<_, _^_}
+use native.Mathlib.Omega.{arith}
+use Rattle.mask.specs.Mask.{lowest}
+use Rattle.mask.specs.MaskLaws.{zeros-least, lowest-is}
+use Rattle.mask.proofs.lowest.Statement.{statement}
+use Rattle.mask.proofs.lowest.Tie as tie
+
+cast-result : tie.Need-cast-result
+unfolding lowest
+cast-result c = omega (arith, zeros-least 32 (c .args .m), lowest-is (c .args .m) .bound)
+
+returns : tie.Need-returns
+unfolding lowest
+returns c = zeros-least 32 (c .args .m)
+
+pub lowest-spec : {M : Type 1} → statement M
+lowest-spec = tie.close (tie.spec cast-result returns)

@@ -1,0 +1,16 @@
+use Rattle.mask.specs.MaskLaws.{has-with}
+use borrow.Author.Needs.{needs}
+use Rattle.mask.proofs.with.Statement.{statement}
+use Rattle.mask.proofs.with.Tie as tie
+
+cast-result : tie.Need-cast-result
+cast-result c = search needs
+
+shl-result : tie.Need-shl-result
+shl-result c = search needs
+
+returns : tie.Need-returns
+returns c = has-with (c .args .m) (c .args .i) (c .pre)
+
+pub with-spec : {M : Type 1} → statement M
+with-spec = tie.close (tie.spec cast-result shl-result returns)

@@ -1,0 +1,21 @@
+-- Search below n: whether a test holds somewhere, the least number at which it holds, at how many it holds. Assumes nothing.
+use mathlib.Core.Bool.{Bool, true, false, _||_, cond}
+use Prim.Native.Nat.{ℕ, zero, suc, _+_}
+
+-- whether f holds somewhere below n
+unfoldable pub some : ℕ → (ℕ → Bool) → Bool
+some zero f = false
+some (suc n) f = f n || some n f
+
+-- the least number below n at which f holds, or n where there is none
+unfoldable pub least : ℕ → (ℕ → Bool) → ℕ
+least zero f = 0
+least (suc n) f = cond (f 0) 0 (suc (least n (λ i. f (suc i))))
+
+abbrev pub oneIf : Bool → ℕ
+oneIf b = cond b 1 0
+
+-- at how many numbers below n f holds
+unfoldable pub count : ℕ → (ℕ → Bool) → ℕ
+count zero f = 0
+count (suc n) f = count n f + oneIf (f n)
