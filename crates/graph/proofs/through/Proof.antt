@@ -1,0 +1,110 @@
+-- The masks passed have got k's mask where they have k, and the others are as they were. k's own mask does not change on the way:
+-- joined with itself it is the same.
+use mathlib.Core.Path.{_≡_, refl, sym, ap, _∙_}
+use mathlib.Core.Logic.{⊎-elim}
+use mathlib.Core.Bool.{true, false, _&&_, _||_, or-false}
+use mathlib.Core.List.{List}
+use Prim.Native.Nat.{ℕ, _≤_, _-_}
+use native.Mathlib.Nat.{le-refl}
+use native.Mathlib.Omega.{arith}
+use lib.Bits.{bitOr}
+use lib.ListN.{length, getD}
+use Rattle.mask.specs.Mask.{has}
+use Rattle.mask.specs.Bits.{has-or, has-zero}
+use Rattle.mask.specs.Loops.{Upto, upto-none, upto-keep, upto-store, upto-all}
+use borrow.Author.Needs.{needs}
+use Rattle.graph.proofs.through.Statement.{statement}
+use Rattle.graph.proofs.through.Tie as tie
+
+-- the row that x gets
+abbrev New : List ℕ → ℕ → ℕ → ℕ → ℕ → Type 0
+New p k row x v = (s : ℕ) → has v s ≡ (has (getD p x 0) s || (has (getD p x 0) k && has row s))
+
+stay : (p : List ℕ) (k row x v : ℕ) → v ≡ getD p x 0 → has v k ≡ false → New p k row x v
+stay p k row x v e h s = rw (← e, h) (sym (or-false (has v s)))
+
+join : (p : List ℕ) (k row x v : ℕ) → v ≡ getD p x 0 → has v k ≡ true → New p k row x (bitOr v row)
+join p k row x v e h s = rw (← e, h) (has-or v row s)
+
+abbrev Inv-loop : tie.InvT-loop
+Inv-loop k row q₀ r₀ q r = (r ≤ 32) × (length q₀ ≡ 32) × Upto (New q₀ k row) q₀ r q
+
+abbrev μ-loop : tie.MeasureT-loop
+μ-loop k row q₀ r₀ q r = 32 - r
+
+mul-row : tie.Need-mul-row Inv-loop μ-loop
+mul-row c = search needs
+
+array-read-row : tie.Need-array-read-row Inv-loop μ-loop
+array-read-row c = search needs
+
+loop-holds : tie.Need-loop-holds Inv-loop μ-loop
+loop-holds c = (search needs, search needs, upto-none _ _)
+
+mul-old : tie.Need-mul-old Inv-loop μ-loop
+mul-old c = search needs
+
+array-read-old : tie.Need-array-read-old Inv-loop μ-loop
+array-read-old c = search needs
+
+has-requires : tie.Need-has-requires Inv-loop μ-loop
+has-requires c κs = search needs
+
+mul-q : tie.Need-mul-q Inv-loop μ-loop
+mul-q c = search needs
+
+array-write-q : tie.Need-array-write-q Inv-loop μ-loop
+array-write-q c = search needs
+
+add-r : tie.Need-add-r Inv-loop μ-loop
+add-r c = search needs
+
+loop-less : tie.Need-loop-less Inv-loop μ-loop
+loop-less c = search needs
+
+loop-again : tie.Need-loop-again Inv-loop μ-loop
+loop-again c =
+    let p = c .before .before .before .before .args .t1 in
+    let k = c .before .before .before .before .args .k in
+    let at = c .before .before .before .loop in
+    let old : getD (at .q) (at .r) 0 ≡ getD p (at .r) 0 = at .inv .2 .rest _ (le-refl _) in
+    ⊎-elim
+    (λ w. (
+      omega arith,
+      search needs,
+      rw (w .1) (upto-store _ _ _ _ _ (omega arith) (at .inv .2)
+          (join p k (getD p k 0) (at .r) _ old (sym (c .before .has .ensures) ∙ w .0 .taken))),
+    ))
+    (λ w. (
+      omega arith,
+      search needs,
+      rw (w .1) (upto-keep _ _ _ _ (at .inv .2)
+          (stay p k (getD p k 0) (at .r) _ old (sym (c .before .has .ensures) ∙ w .0 .left))),
+    ))
+    (c .if1 .came)
+
+returns : tie.Need-returns Inv-loop μ-loop
+returns c =
+    let p = c .before .before .args .t1 in
+    let k = c .before .before .args .k in
+    upto-all _ _ _ _ (c .before .loop .inv .2) (omega arith)
+    (λ x l z. stay p k (getD p k 0) x (getD p x 0) refl (ap (λ (v : ℕ). has v k) z ∙ has-zero k))
+
+pub through-spec : {M : Type 1} → statement M
+through-spec =
+    tie.close
+    (tie.spec
+    Inv-loop
+    μ-loop
+    mul-row
+    array-read-row
+    loop-holds
+    mul-old
+    array-read-old
+    has-requires
+    mul-q
+    array-write-q
+    add-r
+    loop-less
+    loop-again
+    returns)
