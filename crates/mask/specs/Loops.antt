@@ -1,11 +1,12 @@
--- What a loop over 0..n has done: a list of which the entries below i are new, and a set of the numbers below i that pass a test.
+-- What a loop over 0..n has done: a search, a list of which the entries below i are new, a set of the numbers below i that pass a test,
+-- a union of rows.
 -- Assumes nothing.
 use mathlib.Core.Path.{_≡_, refl, sym, ap, ap₂, _∙_, subst}
 use mathlib.Core.Logic.{_⊎_, inl, inr, ⊎-elim}
 use mathlib.Core.Bool.{Bool, true, false, not, _&&_, _||_, and-comm, or-false, or-assoc}
 use mathlib.Core.List.{List}
 use Prim.Native.Nat.{ℕ, zero, suc, _+_, _*_, _^_, _≤_, _<_}
-use native.Mathlib.Nat.{add-comm, add-zero, one-mul, pow-suc, lt-irrefl, le-refl, le-suc, le-trans, eq-or-lt-of-le, not-suc-le-zero, lt-of-lt-of-le}
+use native.Mathlib.Nat.{le-antisymm, add-comm, add-zero, one-mul, pow-suc, lt-irrefl, le-refl, le-suc, le-trans, eq-or-lt-of-le, not-suc-le-zero, lt-of-lt-of-le}
 use native.Mathlib.Numerals.{add-one}
 use native.Mathlib.Omega.{arith}
 use lib.Dec.{eqb, ltb, lit<}
@@ -13,11 +14,43 @@ use lib.ListN.{length, getD, set, length-set, List·getD-eq-default}
 use lib.Seq.{getD-set-same, getD-set-other}
 use borrow.Author.Count.{below-more}
 use borrow.Author.Tests.{lt-ltb, le-ltb, ltb-true, ltb-false, eq-eqb, ne-eqb, eqb-true}
-use Rattle.mask.specs.Search.{some, oneIf}
-use Rattle.mask.specs.SearchLaws.{lt-or-ge, some-but, some-same, some-none}
+use Rattle.mask.specs.Search.{some, least, oneIf}
+use Rattle.mask.specs.SearchLaws.{lt-or-ge, some-but, some-same, some-none, some-more, least-by, least-none}
 use Rattle.mask.specs.Mask.{has, maskOf}
 use Rattle.mask.specs.Bits.{has-zero, has-or, has-bit, ext}
 use lib.Bits.{bitOr, or-shifted-r}
+
+-- ---- a search: `found` says whether f holds at a number below i
+
+pub record Sought (f : ℕ → Bool) (i : ℕ) (found : Bool) : Type 0 where
+  pub is : found ≡ some i f
+
+pub sought-none : {f : ℕ → Bool} → Sought f 0 false
+unfolding some
+sought-none = record { is = refl }
+
+pub sought-more : {f : ℕ → Bool} {i : ℕ} {found : Bool} → Sought f i found → {b : Bool} → b ≡ f i → Sought f (i + 1) (b || found)
+sought-more {f} {i} h p = record { is = ap₂ _||_ p (h .is) ∙ sym (some-more i f) }
+
+pub sought-all : {f : ℕ → Bool} {i n : ℕ} {found : Bool} → Sought f i found → i ≤ n → n ≤ i → found ≡ some n f
+sought-all {f} h l m = h .is ∙ ap (λ (k : ℕ). some k f) (le-antisymm l m)
+
+-- ---- a search for the first: f holds at no number below i
+
+pub record Passed (f : ℕ → Bool) (i : ℕ) : Type 0 where
+  pub none : (x : ℕ) → x < i → f x ≡ false
+
+pub passed-none : {f : ℕ → Bool} → Passed f 0
+passed-none = record { none = λ x l. absurd (not-suc-le-zero l) }
+
+pub passed-more : {f : ℕ → Bool} {i : ℕ} → Passed f i → f i ≡ false → Passed f (i + 1)
+passed-more {f} {i} h e = record { none = below-more (λ x. f x ≡ false) i (h .none) e }
+
+pub passed-here : {f : ℕ → Bool} {i n : ℕ} → Passed f i → i < n → f i ≡ true → i ≡ least n f
+passed-here {f} {i} {n} h l e = least-by n f i (record { bound = le-trans (le-suc i) l; is = λ m. e; first = h .none })
+
+pub passed-all : {f : ℕ → Bool} {i n : ℕ} → Passed f i → n ≤ i → n ≡ least n f
+passed-all {f} {i} {n} h l = sym (least-none n f (λ x m. h .none x (le-trans m l)))
 
 -- ---- a list, entry by entry: q is p, but that each entry x below i is one with P x
 
@@ -79,6 +112,23 @@ picked-all f n a h s l = h s ∙ ap (λ (b : Bool). b && f s) (lt-ltb s n l)
 
 pub picked-every : (f : ℕ → Bool) (n a : ℕ) → Picked f n a → ((s : ℕ) → n ≤ s → f s ≡ false) → (s : ℕ) → has a s ≡ f s
 picked-every f n a h out s = ⊎-elim (picked-all f n a h s) (λ l. h s ∙ ap (λ (b : Bool). b && f s) (le-ltb s n l) ∙ sym (out s l)) (lt-or-ge s n)
+
+-- ---- a union, number by number: a has the members of the sets F x of the numbers x below i
+
+pub record Joined (F : ℕ → ℕ → Bool) (i a : ℕ) : Type 0 where
+  pub members : (s : ℕ) → has a s ≡ some i (λ x. F x s)
+
+pub joined-none : {F : ℕ → ℕ → Bool} → Joined F 0 0
+unfolding some
+joined-none = record { members = has-zero }
+
+pub joined-more : {F : ℕ → ℕ → Bool} {i a : ℕ} → Joined F i a → (m : ℕ) → ((s : ℕ) → has m s ≡ F i s)
+    → Joined F (i + 1) (bitOr m a)
+joined-more {F} {i} {a} h m e =
+    record { members = λ s. has-or m a s ∙ ap₂ _||_ (e s) (h .members s) ∙ sym (some-more i (λ x. F x s)) }
+
+pub joined-all : {F : ℕ → ℕ → Bool} {i a n : ℕ} → Joined F i a → i ≤ n → n ≤ i → (s : ℕ) → has a s ≡ some n (λ x. F x s)
+joined-all {F} h l m s = h .members s ∙ ap (λ (k : ℕ). some k (λ x. F x s)) (le-antisymm l m)
 
 -- ---- a union, member by member: the rows that m names are those in a and those that `left` names
 

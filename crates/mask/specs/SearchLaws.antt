@@ -9,7 +9,7 @@ use native.Mathlib.Decide.{ℕ-discrete}
 use native.Mathlib.Omega.{arith}
 use lib.Arith.{lt-of-le-ne}
 use lib.Dec.{eqb, ltb}
-use borrow.Author.Tests.{ltb-true, ltb-false, eq-eqb, ne-eqb}
+use borrow.Author.Tests.{lt-ltb, ltb-true, ltb-false, eq-eqb, ne-eqb}
 use Rattle.mask.specs.Search.{some, least, count, oneIf}
 
 -- ---- tests
@@ -28,6 +28,10 @@ or-true-cases false b e = inr e
 pub and-true-both : (a b : Bool) → (a && b) ≡ true → (a ≡ true) × (b ≡ true)
 and-true-both true b e = (refl, e)
 and-true-both false b e = absurd (false≢true e)
+
+pub or-false-both : (a b : Bool) → (a || b) ≡ false → (a ≡ false) × (b ≡ false)
+or-false-both true b e = absurd (false≢true (sym e))
+or-false-both false b e = (refl, e)
 
 -- two tests that hold together are one
 pub same-test : (a b : Bool) → (a ≡ true → b ≡ true) → (b ≡ true → a ≡ true) → a ≡ b
@@ -91,6 +95,21 @@ some-same n f g h = some-iff n f g (λ i l e. sym (h i l) ∙ e) (λ i l e. h i 
 pub some-more : (n : ℕ) (f : ℕ → Bool) → some (n + 1) f ≡ (f n || some n f)
 unfolding some
 some-more n f = ap (λ (k : ℕ). some k f) (add-one n)
+
+-- of the numbers below N, those below n
+pub some-below : (N n : ℕ) (f : ℕ → Bool) → n ≤ N → some N (λ i. f i && ltb i n) ≡ some n f
+some-below N n f l = same-test (some N (λ i. f i && ltb i n)) (some n f) there back
+  where
+    there : some N (λ i. f i && ltb i n) ≡ true → some n f ≡ true
+    there e =
+        let w : Found N (λ i. f i && ltb i n) = some-elim N (λ i. f i && ltb i n) e in
+        let p = and-true-both (f (w .at)) (ltb (w .at) n) (w .is) in
+        some-intro n f (w .at) (ltb-true (w .at) n (p .1)) (p .0)
+
+    back : some n f ≡ true → some N (λ i. f i && ltb i n) ≡ true
+    back e =
+        let w : Found n f = some-elim n f e in
+        some-intro N (λ i. f i && ltb i n) (w .at) (le-trans (w .lt) l) (ap₂ _&&_ (w .is) (lt-ltb (w .at) n (w .lt)))
 
 -- one number apart from the rest
 pub some-but : (n : ℕ) (f : ℕ → Bool) (x : ℕ) → x < n → some n f ≡ (f x || some n (λ y. f y && not (eqb y x)))

@@ -1,0 +1,52 @@
+-- Of the rules on a cycle of the closure, one is below n.
+use mathlib.Core.Path.{_≡_, sym, ap, ap₂, _∙_}
+use mathlib.Core.Bool.{_&&_}
+use Prim.Native.Nat.{ℕ}
+use lib.Dec.{ltb}
+use Rattle.mask.specs.Search.{some}
+use Rattle.mask.specs.SearchLaws.{some-same, some-below}
+use Rattle.mask.specs.Mask.{has, meet}
+use Rattle.book.specs.Table.{goesBefore}
+use Rattle.book.specs.Check.{cyclic}
+use borrow.Author.Needs.{needs}
+use Rattle.book.proofs.cyclic.Statement.{statement}
+use Rattle.book.proofs.cyclic.Tie as tie
+
+goes-before-requires : tie.Need-goes-before-requires
+goes-before-requires c κs = search needs
+
+loops-requires : tie.Need-loops-requires
+loops-requires c κs = search needs
+
+wide-requires : tie.Need-wide-requires
+wide-requires c κs = search needs
+
+below-requires : tie.Need-below-requires
+below-requires c κs = search needs
+
+meets-requires : tie.Need-meets-requires
+meets-requires c κs = search needs
+
+returns : tie.Need-returns
+unfolding cyclic meet
+returns c =
+    let s = c .before .before .before .before .before in
+    let on = c .before .before .before .loops .result in
+    let low = c .before .below .result in
+    c .meets .ensures
+    ∙ some-same 32 (λ i. has on i && has low i) (λ i. goesBefore (s .args .t) i i && ltb i (s .args .t .n))
+    (λ i l.
+    ap₂ _&&_ (c .before .before .before .loops .ensures i ∙ c .before .before .before .before .goes-before .ensures i i)
+    (c .before .below .ensures i ∙ ap (ltb i) (c .before .before .wide .ensures)))
+    ∙ some-below 32 (s .args .t .n) (λ i. goesBefore (s .args .t) i i) (s .pre)
+
+pub cyclic-spec : {M : Type 1} → statement M
+cyclic-spec =
+    tie.close
+    (tie.spec
+    goes-before-requires
+    loops-requires
+    wide-requires
+    below-requires
+    meets-requires
+    returns)

@@ -1,0 +1,76 @@
+-- No slot passed is one past n that is not all zero.
+use mathlib.Core.Path.{_≡_, sym, ap, _∙_}
+use mathlib.Core.Bool.{_&&_}
+use Prim.Native.Nat.{ℕ, _≤_, _-_}
+use native.Mathlib.Omega.{arith}
+use lib.Dec.{leb}
+use lib.ListN.{getD}
+use Rattle.rule.specs.Empty.{blankRule}
+use Rattle.mask.specs.Loops.{Passed, passed-none, passed-more, passed-here, passed-all}
+use Rattle.rule.specs.Numbers.{ruleSlotBad}
+use Rattle.book.specs.Table.{ruleAt}
+use Rattle.book.specs.Check.{firstSlot}
+use borrow.Author.Needs.{needs}
+use Rattle.book.proofs.first_slot.Statement.{statement}
+use Rattle.book.proofs.first_slot.Tie as tie
+
+abbrev Inv-loop : tie.InvT-loop
+Inv-loop n rules i₀ i = (i ≤ 32) × Passed (λ x. leb n x && ruleSlotBad (getD rules x blankRule)) i
+
+abbrev μ-loop : tie.MeasureT-loop
+μ-loop n rules i₀ i = 32 - i
+
+wide-requires : tie.Need-wide-requires Inv-loop μ-loop
+wide-requires c κs = search needs
+
+loop-holds : tie.Need-loop-holds Inv-loop μ-loop
+loop-holds c = (search needs, passed-none)
+
+mul-rule-slot-bad : tie.Need-mul-rule-slot-bad Inv-loop μ-loop
+mul-rule-slot-bad c = search needs
+
+array-copy-out-rule-slot-bad : tie.Need-array-copy-out-rule-slot-bad Inv-loop μ-loop
+array-copy-out-rule-slot-bad c = search needs
+
+rule-slot-bad-requires : tie.Need-rule-slot-bad-requires Inv-loop μ-loop
+rule-slot-bad-requires c κs = search needs
+
+returns : tie.Need-returns Inv-loop μ-loop
+unfolding firstSlot
+returns c =
+    let d = c .before .before .before .before in
+    rw (← d .before .before .wide .ensures)
+    (passed-here (d .loop .inv .1) (c .before .before .before .loop-test .taken) (rw (← c .before .rule-slot-bad .ensures) (c .if1 .taken)))
+
+add-i : tie.Need-add-i Inv-loop μ-loop
+add-i c = search needs
+
+loop-less : tie.Need-loop-less Inv-loop μ-loop
+loop-less c = search needs
+
+loop-again : tie.Need-loop-again Inv-loop μ-loop
+loop-again c =
+    let at = c .before .before .before .before .loop in
+    (search needs, passed-more (at .inv .1) (rw (← c .before .rule-slot-bad .ensures) (c .if1 .left)))
+
+returns-2 : tie.Need-returns-2 Inv-loop μ-loop
+unfolding firstSlot
+returns-2 c =
+    rw (← c .before .before .before .wide .ensures) (passed-all (c .before .loop .inv .1) (c .loop-test .left))
+
+pub first-slot-spec : {M : Type 1} → statement M
+first-slot-spec =
+    tie.close
+    (tie.spec
+    Inv-loop
+    μ-loop
+    wide-requires
+    loop-holds
+    mul-rule-slot-bad
+    array-copy-out-rule-slot-bad
+    rule-slot-bad-requires
+    returns
+    add-i
+    loop-less
+    loop-again
+    returns-2)

@@ -1,0 +1,60 @@
+-- An array of N slots of which the first n are filled and the rest hold d: "In memory, slots past a count are all zero."
+-- Assumes nothing.
+use mathlib.Core.Path.{_≡_, refl, ap, sym, _∙_}
+use mathlib.Core.List.{List, [], _∷_, _++_}
+use Prim.Native.Nat.{ℕ, zero, suc, _+_, _-_, _<_, _≤_}
+use native.Mathlib.Numerals.{add-one}
+use native.Mathlib.Omega.{arith}
+use lib.ListN.{length, set, replicate, length-append, length-replicate, getD, getD-replicate, List·getD-append}
+use lib.Seq.{set-at, append-snoc, getD-append-add, getD-at}
+use borrow.Author.Count.{below-more}
+
+module _ {A : Type 0} where
+  -- f 0, f 1, .., f (n - 1)
+  abbrev pub upto : ℕ → (ℕ → A) → List A
+  upto zero f = []
+  upto (suc n) f = upto n f ++ (f n ∷ [])
+
+  abbrev pub filled : ℕ → A → (ℕ → A) → ℕ → List A
+  filled N d f n = upto n f ++ replicate (N - n) d
+
+  -- ---- its laws
+
+  pub length-upto : (n : ℕ) (f : ℕ → A) → length (upto n f) ≡ n
+  length-upto zero f = refl
+  length-upto (suc n) f = omega (arith, length-upto n f, length-append (upto n f) (f n ∷ []))
+
+  pub length-filled : (N : ℕ) (d : A) (f : ℕ → A) (n : ℕ) → n ≤ N → length (filled N d f n) ≡ N
+  length-filled N d f n h = rw (length-append, length-upto, length-replicate) (omega arith)
+
+  -- the next slot is filled
+  pub filled-more : (N : ℕ) (d : A) (f : ℕ → A) (n : ℕ) → n < N → set (filled N d f n) n (f n) ≡ filled N d f (n + 1)
+  filled-more N d f n h =
+      let k = N - (n + 1) in
+      let e : N - n ≡ suc k = omega arith in
+      ap (λ (j : ℕ). set (upto n f ++ replicate j d) n (f n)) e
+      ∙ set-at (upto n f) d (replicate k d) (f n) n (length-upto n f)
+      ∙ sym (append-snoc (upto n f) (f n) (replicate k d))
+      ∙ ap (λ (j : ℕ). upto j f ++ replicate k d) (sym (add-one n))
+
+  pub getD-upto : (n : ℕ) (f : ℕ → A) (d : A) (i : ℕ) → i < n → getD (upto n f) i d ≡ f i
+  getD-upto zero f d i h = absurd (omega arith)
+  getD-upto (suc n) f d i h =
+      below-more (λ (k : ℕ). getD (upto n f ++ (f n ∷ [])) k d ≡ f k) n
+      (λ k g. List·getD-append (upto n f) (f n ∷ []) d k (omega (arith, length-upto n f)) ∙ getD-upto n f d k g)
+      (getD-at (upto n f) (f n) [] d n (length-upto n f))
+      i
+      (rw add-one h)
+
+  -- a filled slot
+  pub getD-filled : (N : ℕ) (d : A) (f : ℕ → A) (n : ℕ) (e : A) (i : ℕ) → i < n → getD (filled N d f n) i e ≡ f i
+  getD-filled N d f n e i h =
+      List·getD-append (upto n f) (replicate (N - n) d) e i (omega (arith, length-upto n f)) ∙ getD-upto n f e i h
+
+  -- a slot that is left
+  pub getD-left : (N : ℕ) (d : A) (f : ℕ → A) (n : ℕ) (e : A) (i : ℕ) → n ≤ i → i < N → getD (filled N d f n) i e ≡ d
+  getD-left N d f n e i h g =
+      let k : i ≡ length (upto n f) + (i - n) = omega (arith, length-upto n f) in
+      ap (λ (j : ℕ). getD (filled N d f n) j e) k
+      ∙ getD-append-add (upto n f) (replicate (N - n) d) (i - n) e
+      ∙ getD-replicate (N - n) (i - n) d e (omega arith)

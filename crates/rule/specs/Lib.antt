@@ -1,0 +1,6 @@
+-- What the contracts of `rule` cite: `Fill`, `Empty` and `Uses` say what a rule is and uses, `Numbers` what is wrong with one.
+pub mod Fill
+pub mod Empty
+pub mod Uses
+pub mod Numbers
+pub mod NumbersLaws
