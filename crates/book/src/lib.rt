@@ -90,7 +90,7 @@ fn first_slot(t: Table) -> usize
 }
 
 // 10: whether the priorities have a cycle.
-fn cyclic(t: Table) -> bool
+pub fn cyclic(t: Table) -> bool
     requires { ⌜ t .n ≤ 32 ⌝ }
     ensures { λ r. ⌜ r ≡ cyclic t ⌝ }
 {

@@ -1,0 +1,56 @@
+// Little-endian numbers of a slice of bytes.
+ghost use mathlib.Core.Path.{_≡_};
+ghost use Prim.Native.Nat.{_+_, _≤_, _<_};
+ghost use lib.ListN.{length};
+ghost use Rattle.endian.specs.Little.{u16At, u32At, u64At, i64At, signed};
+
+fn wide(x: u8) -> u16
+    ensures { λ r. ⌜ (r ≡ x) × (r < 256) ⌝ }
+{
+    x as u16
+}
+
+pub fn u16_at(s: &[u8], at: usize) -> u16
+    requires { ⌜ at + 2 ≤ length (now s) ⌝ }
+    ensures { λ r. ⌜ r ≡ u16At (now (s .entry)) at ⌝ }
+{
+    let a = wide(s[at]);
+    let b = wide(s[at + 1]);
+    a + 256 * b
+}
+
+pub fn u32_at(s: &[u8], at: usize) -> u32
+    requires { ⌜ at + 4 ≤ length (now s) ⌝ }
+    ensures { λ r. ⌜ r ≡ u32At (now (s .entry)) at ⌝ }
+{
+    let a = u16_at(s, at) as u32;
+    let b = u16_at(s, at + 2) as u32;
+    a + 65536 * b
+}
+
+pub fn u64_at(s: &[u8], at: usize) -> u64
+    requires { ⌜ at + 8 ≤ length (now s) ⌝ }
+    ensures { λ r. ⌜ r ≡ u64At (now (s .entry)) at ⌝ }
+{
+    let a = u32_at(s, at) as u64;
+    let b = u32_at(s, at + 4) as u64;
+    a + 4294967296 * b
+}
+
+// The number of 64 bits, read as two's complement.
+pub fn signed_of(x: u64) -> i64
+    ensures { λ r. ⌜ r ≡ signed x ⌝ }
+{
+    if x < 9223372036854775808 {
+        x as i64
+    } else {
+        -1 - ((18446744073709551615 - x) as i64)
+    }
+}
+
+pub fn i64_at(s: &[u8], at: usize) -> i64
+    requires { ⌜ at + 8 ≤ length (now s) ⌝ }
+    ensures { λ r. ⌜ r ≡ i64At (now (s .entry)) at ⌝ }
+{
+    signed_of(u64_at(s, at))
+}

@@ -1,0 +1,5 @@
+-- What the contracts of `reader` cite: `Read` is the definition; `Inside` what contents that fit give; `ReadLaws` joins the reader's
+-- checks to those of a table.
+pub mod Read
+pub mod Inside
+pub mod ReadLaws

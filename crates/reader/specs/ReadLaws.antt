@@ -1,0 +1,1 @@
+-- The reader's checks and the checks of a table. Assumes nothing.
