@@ -3,7 +3,6 @@ ghost use mathlib.Core.Path.{_≡_};
 ghost use Prim.Native.Nat.{_+_, _*_, _≤_};
 ghost use lib.ListN.{length};
 ghost use Rattle.parts.specs.Parts.{testIn, testsIn, assignIn, assignsIn, nameIn, ruleOf, Room};
-
 use rule::Assign;
 use rule::Rule;
 use rule::Test;

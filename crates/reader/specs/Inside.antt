@@ -52,8 +52,8 @@ inside s n few f =
       few = few;
       contents = f .contents;
       bodies = λ i h.
-        let whole : suc i + (n - suc i) ≡ n = omega arith in
-        omega (arith, f .starts i h, f .last, rw whole at (ends-grow s n (suc i) (n - suc i)));
+          let whole : suc i + (n - suc i) ≡ n = omega arith in
+          omega (arith, f .starts i h, f .last, rw whole at (ends-grow s n (suc i) (n - suc i)));
     }
 
 -- what 5 does not refuse of a body

@@ -5,7 +5,6 @@ ghost use Prim.Native.Nat.{_+_, _*_, _≤_, _<_};
 ghost use lib.ListN.{length};
 ghost use Rattle.reader.specs.Read.{nOf, kOf, startOf, lengthOf, contentsBad, bodyBad, ruleIn, refusal, bodiesOf, readOf};
 ghost use Rattle.reader.specs.Inside.{Inside};
-
 use book::Table;
 use rule::Rule;
 

@@ -75,8 +75,13 @@ shared-slice-read-t23 c = search needs
 returns : tie.Need-returns
 returns c =
     let d = c .before .before .before .before in
-    rw (d .u32-at2 .ensures, d .before .u32-at .ensures, d .before .before .read-name .ensures,
-      d .before .before .before .read-assigns .ensures, d .before .before .before .before .read-tests .ensures)
+    rw (
+      d .u32-at2 .ensures,
+      d .before .u32-at .ensures,
+      d .before .before .read-name .ensures,
+      d .before .before .before .read-assigns .ensures,
+      d .before .before .before .before .read-tests .ensures,
+    )
 
 pub read-rule-spec : {M : Type 1} → statement M
 read-rule-spec =

@@ -1,91 +1,94 @@
+-- `end` is where body i has to start, and `bad` says whether one of the starts passed is elsewhere.
+use mathlib.Core.Path.{_≡_, refl, sym, ap, ap₂, _∙_}
+use mathlib.Core.Bool.{not}
+use Prim.Native.Nat.{ℕ, _+_, _*_, _≤_, _-_}
+use native.Mathlib.Numerals.{add-one}
+use native.Mathlib.Omega.{arith}
+use lib.Dec.{eqb}
+use borrow.Author.Tests.{lt-ltb, le-ltb}
+use Rattle.mask.specs.Loops.{Sought, sought-none, sought-more, sought-all}
+use Rattle.reader.specs.Read.{startOf, endOf, contentsBad}
+use borrow.Author.Needs.{needs}
 use Rattle.reader.proofs.contents_bad.Statement.{statement}
 use Rattle.reader.proofs.contents_bad.Tie as tie
-use Rattle.reader.proofs.contents_bad.Reads as reads
-use Rattle.reader.proofs.contents_bad.Lts as lts
-use Rattle.endian.proofs.u16_at.Reads as u16-at-reads
-use Rattle.reader.proofs.wide.Reads as wide-reads
 
 abbrev Inv-loop : tie.InvT-loop
-Inv-loop s n end₀ bad₀ i₀ end bad i = ?
+Inv-loop s n end₀ bad₀ i₀ end bad i =
+    (i ≤ n) × (end ≡ endOf s n i) × (end ≤ 4 + 4 * n + 65535 * i) × Sought (λ j. not (eqb (startOf s j) (endOf s n j))) i bad
 
 abbrev μ-loop : tie.MeasureT-loop
-μ-loop s n end₀ bad₀ i₀ end bad i = ?
+μ-loop s n end₀ bad₀ i₀ end bad i = n - i
 
--- src/lib.rt:46:22
 mul-if1 : tie.Need-mul-if1 Inv-loop μ-loop
-mul-if1 c = ?
+mul-if1 c = search needs
 
--- src/lib.rt:46:18
 add-if1 : tie.Need-add-if1 Inv-loop μ-loop
-add-if1 c = ?
+add-if1 c = search needs
 
--- src/lib.rt:47:9
 returns : tie.Need-returns Inv-loop μ-loop
-returns c = ?
+unfolding contentsBad
+returns c = rw (lt-ltb _ _ (c .if1 .taken))
 
--- src/lib.rt:49:30
 mul-end : tie.Need-mul-end Inv-loop μ-loop
-mul-end c = ?
+mul-end c = search needs
 
--- src/lib.rt:49:26
 add-end : tie.Need-add-end Inv-loop μ-loop
-add-end c = ?
+add-end c = search needs
 
--- src/lib.rt:51:5
 loop-holds : tie.Need-loop-holds Inv-loop μ-loop
-loop-holds c = ?
+loop-holds c = (search needs, refl, search needs, sought-none)
 
--- src/lib.rt:52:48
 mul-u16-at : tie.Need-mul-u16-at Inv-loop μ-loop
-mul-u16-at c = ?
+mul-u16-at c = search needs
 
--- src/lib.rt:52:44
 add-u16-at : tie.Need-add-u16-at Inv-loop μ-loop
-add-u16-at c = ?
+add-u16-at c = search needs
 
--- src/lib.rt:52:26
 u16-at-requires : tie.Need-u16-at-requires Inv-loop μ-loop
-u16-at-requires c κs = ?
+u16-at-requires c κs = search needs
 
--- src/lib.rt:52:13
 wide-requires : tie.Need-wide-requires Inv-loop μ-loop
-wide-requires c κs = ?
+wide-requires c κs = search needs
 
--- src/lib.rt:54:48
 mul-u16-at-2 : tie.Need-mul-u16-at-2 Inv-loop μ-loop
-mul-u16-at-2 c = ?
+mul-u16-at-2 c = search needs
 
--- src/lib.rt:54:44
 add-u16-at-2 : tie.Need-add-u16-at-2 Inv-loop μ-loop
-add-u16-at-2 c = ?
+add-u16-at-2 c = search needs
 
--- src/lib.rt:54:26
 u16-at-requires-2 : tie.Need-u16-at-requires-2 Inv-loop μ-loop
-u16-at-requires-2 c κs = ?
+u16-at-requires-2 c κs = search needs
 
--- src/lib.rt:54:21
 wide-requires-2 : tie.Need-wide-requires-2 Inv-loop μ-loop
-wide-requires-2 c κs = ?
+wide-requires-2 c κs = search needs
 
--- src/lib.rt:54:15
 add-end-2 : tie.Need-add-end-2 Inv-loop μ-loop
-add-end-2 c = ?
+add-end-2 c = search needs
 
--- src/lib.rt:51:9
 add-i : tie.Need-add-i Inv-loop μ-loop
-add-i c = ?
+add-i c = search needs
 
--- src/lib.rt:51:5
 loop-less : tie.Need-loop-less Inv-loop μ-loop
-loop-less c = ?
+loop-less c = search needs
 
--- src/lib.rt:51:5
 loop-again : tie.Need-loop-again Inv-loop μ-loop
-loop-again c = ?
+loop-again c =
+    let d = c .before .before in
+    let l = d .before .before .before .loop in (
+      search needs,
+      rw (add-one, l .inv .1, c .wide2 .ensures .0, c .before .u16-at2 .ensures),
+      search needs,
+      sought-more (l .inv .3)
+          (ap₂ (λ (x y : ℕ). not (eqb x y)) (d .wide .ensures .0 ∙ d .before .u16-at .ensures) (l .inv .1)),
+    )
 
--- src/lib.rt:42:1
 returns-2 : tie.Need-returns-2 Inv-loop μ-loop
-returns-2 c = ?
+unfolding contentsBad
+returns-2 c =
+    let l = c .before .loop in
+    let b = c .before .before in
+    let e : l .i ≡ b .before .before .args .n = omega arith in
+    rw (le-ltb _ _ (b .if1 .left), sought-all (l .inv .3) (l .inv .0) (c .loop-test .left), l .inv .1, e)
 
 pub contents-bad-spec : {M : Type 1} → statement M
 contents-bad-spec =

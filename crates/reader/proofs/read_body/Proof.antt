@@ -1,72 +1,79 @@
+-- The body that 5 does not refuse has room for the parts that its counts ask for.
+use mathlib.Core.Path.{_≡_, _∙_}
+use Prim.Native.Nat.{_+_, _≤_}
+use native.Mathlib.Omega.{arith}
+use lib.ListN.{length}
+use Rattle.reader.specs.Read.{startOf}
+use Rattle.reader.specs.Inside.{Counts, counts, room}
 use borrow.Author.Needs.{needs}
 use Rattle.reader.proofs.read_body.Statement.{statement}
 use Rattle.reader.proofs.read_body.Tie as tie
-use Rattle.reader.proofs.read_body.Reads as reads
-use Rattle.reader.proofs.read_body.Lts as lts
-use Rattle.endian.proofs.u16_at.Reads as u16-at-reads
-use Rattle.parts.proofs.read_rule.Reads as read-rule-reads
-use Rattle.reader.proofs.count.Reads as count-reads
-use Rattle.reader.proofs.wide.Reads as wide-reads
 
--- src/lib.rt:81:41
 mul-u16-at : tie.Need-mul-u16-at
 mul-u16-at c = search needs
 
--- src/lib.rt:81:37
 add-u16-at : tie.Need-add-u16-at
 add-u16-at c = search needs
 
--- src/lib.rt:81:19
 u16-at-requires : tie.Need-u16-at-requires
 u16-at-requires c κs = search needs
 
--- src/lib.rt:81:9
 wide-requires : tie.Need-wide-requires
 wide-requires c κs = search needs
 
--- src/lib.rt:82:21
+start : (c : tie.After-wide) → c .wide .result ≡ startOf (c .before .before .before .args .s .now) (c .before .before .before .args .i)
+start c = c .wide .ensures .0 ∙ c .before .u16-at .ensures
+
+good : (c : tie.After-wide) → Counts (c .before .before .before .args .s .now) (c .before .before .before .args .i)
+good c = let a = c .before .before .before in counts (a .args .s .now) (a .args .i) (a .pre .3)
+
+head : (c : tie.After-wide) → c .wide .result + 12 ≤ length (c .before .before .before .args .s .now)
+head c = omega (arith, start c, good c .head, c .before .before .before .pre .2)
+
 add-count : tie.Need-add-count
 add-count c = search needs
 
--- src/lib.rt:82:19
 shared-slice-read-count : tie.Need-shared-slice-read-count
-shared-slice-read-count c = ?
+shared-slice-read-count c = omega (arith, head (c .before))
 
--- src/lib.rt:82:9
 count-requires : tie.Need-count-requires
 count-requires c κs = search needs
 
--- src/lib.rt:83:21
 add-count-2 : tie.Need-add-count-2
 add-count-2 c = search needs
 
--- src/lib.rt:83:19
 shared-slice-read-count-2 : tie.Need-shared-slice-read-count-2
-shared-slice-read-count-2 c = ?
+shared-slice-read-count-2 c = omega (arith, head (c .before .before .before))
 
--- src/lib.rt:83:9
 count-requires-2 : tie.Need-count-requires-2
 count-requires-2 c κs = search needs
 
--- src/lib.rt:84:21
 add-count-3 : tie.Need-add-count-3
 add-count-3 c = search needs
 
--- src/lib.rt:84:19
 shared-slice-read-count-3 : tie.Need-shared-slice-read-count-3
-shared-slice-read-count-3 c = ?
+shared-slice-read-count-3 c = omega (arith, head (c .before .before .before .before .before))
 
--- src/lib.rt:84:9
 count-requires-3 : tie.Need-count-requires-3
 count-requires-3 c κs = search needs
 
--- src/lib.rt:85:5
 read-rule-requires : tie.Need-read-rule-requires
-read-rule-requires c κs = ?
+read-rule-requires c κs =
+    let w = c .before .before .before .before .before .before in
+    let a = w .before .before .before in
+    rw (c .count3 .ensures .0, c .before .before .count2 .ensures .0, c .before .before .before .before .count .ensures .0, start w)
+    (room (a .args .s .now) (a .args .i) (a .pre .2) (good w))
 
--- src/lib.rt:77:1
 returns : tie.Need-returns
-returns c = ?
+returns c =
+    let w = c .before .before .before .before .before .before .before in
+    rw (
+      c .read-rule .ensures,
+      c .before .count3 .ensures .0,
+      c .before .before .before .count2 .ensures .0,
+      c .before .before .before .before .before .count .ensures .0,
+      start w,
+    )
 
 pub read-body-spec : {M : Type 1} → statement M
 read-body-spec =

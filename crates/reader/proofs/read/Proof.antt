@@ -1,0 +1,151 @@
+-- Each return is the first case of `readOf` whose test held; the tests before it did not.
+use mathlib.Core.Path.{_≡_, sym, ap, _∙_}
+use mathlib.Core.Bool.{true, false}
+use borrow.Author.Tests.{lt-ltb, le-ltb}
+use Rattle.book.specs.Check.{sizesBad}
+use Rattle.book.specs.Sound.{Sized, sized}
+use Rattle.reader.specs.Read.{nOf, kOf, lengthBad, headBad, contentsBad, readOf}
+use Rattle.reader.specs.Inside.{fitting, inside}
+use borrow.Author.Needs.{needs}
+use Rattle.reader.proofs.read.Statement.{statement}
+use Rattle.reader.proofs.read.Tie as tie
+
+refused-requires : tie.Need-refused-requires
+refused-requires c κs = search needs
+
+returns : tie.Need-returns
+unfolding readOf
+returns c = rw (c .refused .ensures, lt-ltb _ _ (c .before .if1 .taken))
+
+refused-requires-2 : tie.Need-refused-requires-2
+refused-requires-2 c κs = search needs
+
+returns-2 : tie.Need-returns-2
+unfolding readOf
+returns-2 c = rw (c .refused2 .ensures, le-ltb _ _ (c .before .before .if1 .left), lt-ltb _ _ (c .before .if2 .taken))
+
+-- past the first two tests the length is right
+long : (c : tie.Else2) → lengthBad (c .before .before .before .args .book .now) ≡ false
+long c = rw (le-ltb _ _ (c .before .if1 .left), le-ltb _ _ (c .if2 .left))
+
+shared-slice-read-e : tie.Need-shared-slice-read-e
+shared-slice-read-e c = search needs
+
+shared-slice-read-n : tie.Need-shared-slice-read-n
+shared-slice-read-n c = search needs
+
+shared-slice-read-k : tie.Need-shared-slice-read-k
+shared-slice-read-k c = search needs
+
+shared-slice-read-z : tie.Need-shared-slice-read-z
+shared-slice-read-z c = search needs
+
+refused-requires-3 : tie.Need-refused-requires-3
+refused-requires-3 c κs = search needs
+
+returns-3 : tie.Need-returns-3
+unfolding readOf
+returns-3 c =
+    rw (c .refused3 .ensures, long (c .before .before .before .before .before .before), c .before .if3 .taken)
+
+sizes-bad-requires : tie.Need-sizes-bad-requires
+sizes-bad-requires c κs = search needs
+
+refused-requires-4 : tie.Need-refused-requires-4
+refused-requires-4 c κs = search needs
+
+returns-4 : tie.Need-returns-4
+unfolding readOf
+returns-4 c =
+    let d = c .before .before .before in
+    rw (
+      c .refused4 .ensures,
+      long (d .before .before .before .before .before),
+      d .if3 .left,
+      sym (c .before .before .sizes-bad .ensures) ∙ c .before .if4 .taken,
+    )
+
+-- past the fourth the sizes are
+sized-good : (c : tie.Else4) →
+    let s = c .before .before .before .before .before .before .before .before .before .before .args .book .now in
+    sizesBad (nOf s) (kOf s) ≡ false
+sized-good c = sym (c .before .sizes-bad .ensures) ∙ c .if4 .left
+
+sizes : (c : tie.Else4) →
+    let s = c .before .before .before .before .before .before .before .before .before .before .args .book .now in
+    Sized (nOf s) (kOf s)
+sizes c =
+    let s = c .before .before .before .before .before .before .before .before .before .before .args .book .now in
+    sized (nOf s) (kOf s) (sized-good c)
+
+count-requires : tie.Need-count-requires
+count-requires c κs = search needs
+
+contents-bad-requires : tie.Need-contents-bad-requires
+contents-bad-requires c κs = rw (c .count .ensures .0) (sizes (c .before) .rules)
+
+contents : (c : tie.After-contents-bad) →
+    let s = c .before .before .before .before .before .before .before .before .before .before .before .before .args .book .now in
+    contentsBad s (nOf s) ≡ c .contents-bad .result
+contents c =
+    let s = c .before .before .before .before .before .before .before .before .before .before .before .before .args .book .now in
+    ap (contentsBad s) (sym (c .before .count .ensures .0)) ∙ sym (c .contents-bad .ensures)
+
+refused-requires-5 : tie.Need-refused-requires-5
+refused-requires-5 c κs = search needs
+
+returns-5 : tie.Need-returns-5
+unfolding readOf
+returns-5 c =
+    let e = c .before .before .before .before in
+    let d = e .before .before in
+    rw (
+      c .refused5 .ensures,
+      long (d .before .before .before .before .before),
+      d .if3 .left,
+      sized-good e,
+      contents (c .before .before) ∙ c .before .if5 .taken,
+    )
+
+read-bodies-requires : tie.Need-read-bodies-requires
+read-bodies-requires c κs =
+    let e = c .before .before .before in
+    let s = e .before .before .before .before .before .before .before .before .before .before .args .book .now in
+    (search needs, search needs, sizes e .cells, inside s (nOf s) (sizes e .rules) (fitting s (nOf s) (contents (c .before) ∙ c .if5 .left)))
+
+returns-6 : tie.Need-returns-6
+unfolding readOf
+returns-6 c =
+    let e = c .before .before .before .before in
+    let d = e .before .before in
+    rw (
+      c .read-bodies .ensures,
+      long (d .before .before .before .before .before),
+      d .if3 .left,
+      sized-good e,
+      contents (c .before .before) ∙ c .before .if5 .left,
+    )
+
+pub read-spec : {M : Type 1} → statement M
+read-spec =
+    tie.close
+    (tie.spec
+    refused-requires
+    returns
+    refused-requires-2
+    returns-2
+    shared-slice-read-e
+    shared-slice-read-n
+    shared-slice-read-k
+    shared-slice-read-z
+    refused-requires-3
+    returns-3
+    sizes-bad-requires
+    refused-requires-4
+    returns-4
+    count-requires
+    contents-bad-requires
+    refused-requires-5
+    returns-5
+    read-bodies-requires
+    returns-6)
