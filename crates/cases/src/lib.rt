@@ -1,0 +1,1 @@
+// The treasurer's cases: one table and one claim, in specs/.
