@@ -1,0 +1,25 @@
+use mathlib.Core.Path.{sym, ap, ap₂, _∙_}
+use mathlib.Core.Bool.{_||_}
+use lib.Dec.{eqb}
+use Rattle.mask.specs.Bits.{has-zero}
+use Rattle.uses.proofs.Laws.{low, high}
+use borrow.Author.Needs.{needs}
+use Rattle.uses.proofs.cell.Statement.{statement}
+use Rattle.uses.proofs.cell.Tie as tie
+
+wide-requires : tie.Need-wide-requires
+wide-requires c κs = search needs
+
+with-requires : tie.Need-with-requires
+with-requires c κs = search needs
+
+returns : tie.Need-returns
+returns c =
+    let a = c .before .before .before .args .c in
+    λ x. c .with .ensures x ∙ ap₂ _||_ (has-zero x) (ap (eqb x) (c .before .wide .ensures)) ∙ low a (c .before .before .if1 .taken) x
+
+returns-2 : tie.Need-returns-2
+returns-2 c = λ x. has-zero x ∙ high (c .before .args .c) (c .if1 .left) x
+
+pub cell-spec : {M : Type 1} → statement M
+cell-spec = tie.close (tie.spec wide-requires with-requires returns returns-2)

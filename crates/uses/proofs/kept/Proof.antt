@@ -1,0 +1,13 @@
+use mathlib.Core.Path.{sym, _∙_}
+use Rattle.mask.specs.Bits.{has-zero}
+use Rattle.uses.proofs.kept.Statement.{statement}
+use Rattle.uses.proofs.kept.Tie as tie
+
+returns : tie.Need-returns
+returns c = λ x. rw (c .if1 .taken)
+
+returns-2 : tie.Need-returns-2
+returns-2 c = λ x. has-zero x ∙ rw (c .if1 .left)
+
+pub kept-spec : {M : Type 1} → statement M
+kept-spec = tie.close (tie.spec returns returns-2)

@@ -1,0 +1,57 @@
+-- The cells that the right sides passed read.
+use mathlib.Core.Bool.{_&&_}
+use Prim.Native.Nat.{_≤_, _-_}
+use lib.Dec.{ltb, eqb}
+use lib.ListN.{getD}
+use Rattle.mask.specs.Loops.{Joined, joined-none, joined-more, joined-all}
+use Rattle.rule.specs.Empty.{noAssign}
+use Rattle.rule.specs.Uses.{sideReads}
+use borrow.Author.Needs.{needs}
+use Rattle.uses.proofs.sides_read.Statement.{statement}
+use Rattle.uses.proofs.sides_read.Tie as tie
+
+abbrev Inv-loop : tie.InvT-loop
+Inv-loop a xs m₀ j₀ m j = (j ≤ a) × Joined (λ y x. ltb x 32 && sideReads (getD xs y noAssign) x) j m
+
+abbrev μ-loop : tie.MeasureT-loop
+μ-loop a xs m₀ j₀ m j = a - j
+
+loop-holds : tie.Need-loop-holds Inv-loop μ-loop
+loop-holds c = (search needs, joined-none)
+
+mul-side-reads : tie.Need-mul-side-reads Inv-loop μ-loop
+mul-side-reads c = search needs
+
+array-copy-out-side-reads : tie.Need-array-copy-out-side-reads Inv-loop μ-loop
+array-copy-out-side-reads c = search needs
+
+side-reads-requires : tie.Need-side-reads-requires Inv-loop μ-loop
+side-reads-requires c κs = search needs
+
+add-j : tie.Need-add-j Inv-loop μ-loop
+add-j c = search needs
+
+loop-less : tie.Need-loop-less Inv-loop μ-loop
+loop-less c = search needs
+
+loop-again : tie.Need-loop-again Inv-loop μ-loop
+loop-again c =
+    (search needs, joined-more (c .before .before .before .loop .inv .1) (c .side-reads .result) (c .side-reads .ensures))
+
+returns : tie.Need-returns Inv-loop μ-loop
+returns c = joined-all (c .before .loop .inv .1) (c .before .loop .inv .0) (c .loop-test .left)
+
+pub sides-read-spec : {M : Type 1} → statement M
+sides-read-spec =
+    tie.close
+    (tie.spec
+    Inv-loop
+    μ-loop
+    loop-holds
+    mul-side-reads
+    array-copy-out-side-reads
+    side-reads-requires
+    add-j
+    loop-less
+    loop-again
+    returns)

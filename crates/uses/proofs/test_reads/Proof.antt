@@ -1,0 +1,30 @@
+-- The left cell, and the right cell where the kind is 1.
+use mathlib.Core.Path.{sym, ap, ap₂, _∙_}
+use mathlib.Core.Bool.{_||_, _&&_}
+use lib.Dec.{eqb, ltb}
+use Rattle.mask.specs.Bits.{has-or}
+use Rattle.uses.proofs.Laws.{out}
+use borrow.Author.Needs.{needs}
+use Rattle.uses.proofs.test_reads.Statement.{statement}
+use Rattle.uses.proofs.test_reads.Tie as tie
+
+cell-requires : tie.Need-cell-requires
+cell-requires c κs = search needs
+
+cell-requires-2 : tie.Need-cell-requires-2
+cell-requires-2 c κs = search needs
+
+kept-requires : tie.Need-kept-requires
+kept-requires c κs = search needs
+
+returns : tie.Need-returns
+returns c =
+    let t = c .before .before .before .before .args .t in
+    λ x.
+    has-or (c .before .before .before .cell .result) (c .kept .result) x
+    ∙ ap₂ _||_ (c .before .before .before .cell .ensures x)
+    (c .kept .ensures x ∙ ap (λ b. eqb (t .kind) 1 && b) (c .before .cell2 .ensures x))
+    ∙ out (ltb x 32) (eqb x (t .left)) (eqb (t .kind) 1) (eqb x (t .right))
+
+pub test-reads-spec : {M : Type 1} → statement M
+test-reads-spec = tie.close (tie.spec cell-requires cell-requires-2 kept-requires returns)
