@@ -33,7 +33,7 @@ module _ (t : Table) where
       (via-join l (leads-via (precedesOf t) (t .n) r s a) (leads-via (precedesOf t) (t .n) s u b))
 
   -- every precedes mask of a sound table names rules below n only
-  pub precedes-rows : Sound t → ((i : ℕ) → ruleAt t i .precedes < 2 ^ 32) → Rows (t .n) (precedesOf t)
+  pub precedes-rows : Sound t → ((i : ℕ) → i < t .n → ruleAt t i .precedes < 2 ^ 32) → Rows (t .n) (precedesOf t)
   unfolding cellsBad
   precedes-rows s h r = ⊎-elim mine (λ l. ⊎-elim (left l) (past l) (lt-or-ge r 32)) (lt-or-ge r (t .n))
     where
@@ -55,7 +55,7 @@ module _ (t : Table) where
       mine : r < t .n → getD (precedesOf t) r 0 < 2 ^ t .n
       mine l =
           subst (λ (x : ℕ). x < 2 ^ t .n) (sym (getD-filled 32 0 mask (t .n) 0 r l))
-          (not-beyond (mask r) (t .n) (h r) (clean r l))
+          (not-beyond (mask r) (t .n) (h r l) (clean r l))
 
       left : t .n ≤ r → r < 32 → getD (precedesOf t) r 0 < 2 ^ t .n
       left l m = subst (λ (x : ℕ). x < 2 ^ t .n) (sym (getD-left 32 0 mask (t .n) 0 r l m)) (pow-pos (t .n))
@@ -66,7 +66,7 @@ module _ (t : Table) where
           (sym (List·getD-eq-default (precedesOf t) 0 {n = r} (subst (λ (x : ℕ). x ≤ r) (sym (length-filled 32 0 mask (t .n) few)) m)))
           (pow-pos (t .n))
 
-  pub before-iff : Sound t → ((i : ℕ) → ruleAt t i .precedes < 2 ^ 32) → (r s : ℕ)
+  pub before-iff : Sound t → ((i : ℕ) → i < t .n → ruleAt t i .precedes < 2 ^ 32) → (r s : ℕ)
       → (goesBefore t r s ≡ true) ↔ GoesBefore t r s
   unfolding goesBefore
   before-iff s h = leads-iff (t .n) (precedesOf t) (precedes-rows s h)

@@ -80,3 +80,23 @@ module _ (t : Table) where
       let c = skip (ltb (firstSlot t) 32) 6 (firstSlot t) _ (b .1) in
       let d = skip (cyclic t) 9 255 _ (c .1) in
       record { sizes = sized (t .n) (t .k) (a .0); rules = none-bad (b .0); slots = none-slot (c .0); acyclic = d .0 }
+
+  -- ---- a table whose check gives 0 is sound
+
+  pass : (b : Bool) (x y : Answer) → (b ≡ true → x .number ≡ 0 → ⊥) → cond b x y .number ≡ 0 → (cond b x y ≡ y) × (y .number ≡ 0)
+  pass true x y h e = absurd (h refl e)
+  pass false x y h e = (refl, e)
+
+  pub sound-by : checkOf t .number ≡ 0 → Sound t
+  unfolding checkOf
+  sound-by e =
+      let last = cond (cyclic t) (answer 10 255) done in
+      let slots = cond (ltb (firstSlot t) 32) (answer 7 (firstSlot t)) last in
+      let rules = cond (ltb (firstBad t) (t .n)) (answer (numberAt t (firstBad t)) (firstBad t)) slots in
+      let a = pass (sizesBad (t .n) (t .k)) (answer 3 255) rules (λ b z. omega arith) e in
+      let b =
+      pass (ltb (firstBad t) (t .n)) (answer (numberAt t (firstBad t)) (firstBad t)) slots
+      (λ l z. false≢true (sym (ap notZero z) ∙ bad-here l)) (a .1) in
+      let c = pass (ltb (firstSlot t) 32) (answer 7 (firstSlot t)) last (λ b z. omega arith) (b .1) in
+      let d = pass (cyclic t) (answer 10 255) done (λ b z. omega arith) (c .1) in
+      record { checked = a .0 ∙ b .0 ∙ c .0 ∙ d .0 }

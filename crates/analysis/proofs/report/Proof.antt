@@ -1,0 +1,49 @@
+-- A table with a number is refused by it; the masks of any other are judged.
+use mathlib.Core.Path.{_≡_, sym, ap, _∙_, subst}
+use Prim.Native.Nat.{ℕ}
+use Rattle.book.specs.declared.Answer.{Answer}
+use Rattle.book.specs.Check.{checkOf}
+use Rattle.book.specs.Sound.{sound-by}
+use Rattle.pairs.specs.declared.Masks.{Masks}
+use Rattle.judging.specs.Report.{Reported}
+use Rattle.analysis.specs.Says.{refusedReport}
+use borrow.Author.Needs.{needs}
+use Rattle.analysis.proofs.report.Statement.{statement}
+use Rattle.analysis.proofs.report.Tie as tie
+
+check-requires : tie.Need-check-requires
+check-requires c κs = search needs
+
+no-report-requires : tie.Need-no-report-requires
+no-report-requires c κs = search needs
+
+returns : tie.Need-returns
+returns c =
+    let t = c .before .before .before .before .args .t in
+    let a : c .before .before .before .check .result ≡ checkOf t = c .before .before .before .check .ensures in
+    record {
+      refused = λ ne. c .no-report .ensures ∙ ap (λ (x : Answer). refusedReport (x .number) (x .place)) a;
+      done = λ e. absurd (c .before .if1 .taken (ap (λ (x : Answer). x .number) a ∙ e));
+    }
+
+masks-requires : tie.Need-masks-requires
+masks-requires c κs =
+    let t = c .before .before .before .args .t in
+    sound-by t (sym (ap (λ (x : Answer). x .number) (c .before .before .check .ensures)) ∙ c .if1 .left)
+
+report-requires : tie.Need-report-requires
+report-requires c κs = c .masks .ensures .orderly
+
+returns-2 : tie.Need-returns-2
+returns-2 c =
+    let d = c .before .before in
+    let a = ap (λ (x : Answer). x .number) (d .before .before .check .ensures) in
+    record {
+      refused = λ ne. absurd (ne (sym a ∙ d .if1 .left));
+      done = λ e. subst (λ (m : Masks). Reported m (c .report .result)) (c .before .masks .ensures .is) (c .report .ensures);
+    }
+
+pub report-spec : {M : Type 1} → statement M
+report-spec =
+    tie.close
+    (tie.spec check-requires no-report-requires returns masks-requires report-requires returns-2)

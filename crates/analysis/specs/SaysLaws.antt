@@ -1,0 +1,31 @@
+-- What is promised determines the answers: any two results that meet it are equal. Assumes nothing.
+use mathlib.Core.Path.{_≡_, sym, _∙_}
+use Prim.Native.Nat.{ℕ, _^_, _<_}
+use native.Mathlib.Decide.{ℕ-discrete}
+use Rattle.book.specs.declared.Table.{Table}
+use Rattle.book.specs.Table.{ruleAt}
+use Rattle.book.specs.Check.{checkOf}
+use Rattle.book.specs.Sound.{sound-by}
+use Rattle.judging.specs.declared.Report.{Report}
+use Rattle.judging.specs.declared.Bound.{Bound}
+use Rattle.judging.specs.ReportLaws.{unique}
+use Rattle.judging.specs.BoundLaws.{bound-unique}
+use Rattle.analysis.specs.Masks.{masksOf}
+use Rattle.analysis.specs.MasksLaws.{masks-orderly}
+use Rattle.analysis.specs.Says.{ReportSays, BoundSays}
+
+pub report-unique : (t : Table) (r s : Report) → ReportSays t r → ReportSays t s → r ≡ s
+report-unique t r s p q = go (ℕ-discrete (checkOf t .number) 0)
+  where
+    go : Dec (checkOf t .number ≡ 0) → r ≡ s
+    go (yes e) = unique (masksOf t) r s (p .done e) (q .done e)
+    go (no ne) = p .refused ne ∙ sym (q .refused ne)
+
+-- of a table that memory can hold: its precedes masks have 32 bits
+pub bound-of-unique : (t : Table) → ((i : ℕ) → i < t .n → ruleAt t i .precedes < 2 ^ 32) → (set : ℕ) (a b : Bound)
+    → BoundSays t set a → BoundSays t set b → a ≡ b
+bound-of-unique t h set a b p q = go (ℕ-discrete (checkOf t .number) 0)
+  where
+    go : Dec (checkOf t .number ≡ 0) → a ≡ b
+    go (yes e) = bound-unique (masksOf t) (masks-orderly t (sound-by t e) h) set a b (p .done e) (q .done e)
+    go (no ne) = p .refused ne ∙ sym (q .refused ne)

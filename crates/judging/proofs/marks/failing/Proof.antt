@@ -1,0 +1,77 @@
+-- The loop has the count of the marks 2 passed.
+use mathlib.Core.Path.{_≡_, refl, sym, ap, _∙_}
+use mathlib.Core.Logic.{⊎-elim}
+use mathlib.Core.Bool.{Bool, true, false}
+use Prim.Native.Nat.{ℕ, _≤_, _-_, _+_}
+use native.Mathlib.Nat.{add-zero, le-antisymm}
+use native.Mathlib.Omega.{arith}
+use lib.ListN.{length}
+use borrow.Author.Tests.{eq-eqb, ne-eqb}
+use Rattle.mask.specs.Search.{count, oneIf}
+use Rattle.mask.specs.SearchLaws.{count-max}
+use Rattle.judging.specs.Counts.{count-more}
+use Rattle.judging.specs.Report.{failsAt}
+use borrow.Author.Needs.{needs}
+use Rattle.judging.proofs.marks.failing.Statement.{statement}
+use Rattle.judging.proofs.marks.failing.Tie as tie
+
+-- one mark further
+turn : (f : ℕ → Bool) (k c : ℕ) (b : Bool) → f k ≡ b → c ≡ count k f → c + oneIf b ≡ count (k + 1) f
+turn f k c b e q = ap (λ (x : ℕ). x + oneIf b) q ∙ sym (count-more k f ∙ ap (λ (x : Bool). count k f + oneIf x) e)
+
+abbrev Inv-loop : tie.InvT-loop
+Inv-loop q c₀ k₀ c k = (k ≤ 496) × (length q ≡ 496) × (c ≡ count k (failsAt q))
+
+abbrev μ-loop : tie.MeasureT-loop
+μ-loop q c₀ k₀ c k = 496 - k
+
+loop-holds : tie.Need-loop-holds Inv-loop μ-loop
+unfolding count
+loop-holds c = (search needs, search needs, refl)
+
+array-read-if1 : tie.Need-array-read-if1 Inv-loop μ-loop
+array-read-if1 c = search needs
+
+add-c : tie.Need-add-c Inv-loop μ-loop
+add-c c =
+    omega (
+      arith,
+      c .before .before .loop .inv,
+      count-max (c .before .before .loop .k)
+          (failsAt (c .before .before .before .args .t1)),
+    )
+
+add-k : tie.Need-add-k Inv-loop μ-loop
+add-k c = search needs
+
+loop-less : tie.Need-loop-less Inv-loop μ-loop
+loop-less c = search needs
+
+loop-again : tie.Need-loop-again Inv-loop μ-loop
+loop-again c =
+    let at = c .before .before .loop in
+    let go = turn (failsAt (c .before .before .before .args .t1)) (at .k) (at .c) in
+    ⊎-elim
+    (λ w. (omega arith, at .inv .1, w .1 ∙ go true (eq-eqb _ _ (w .0 .taken)) (at .inv .2)))
+    (λ w. (omega arith, at .inv .1, w .1 ∙ sym (add-zero _) ∙ go false (ne-eqb _ _ (w .0 .left)) (at .inv .2)))
+    (c .if1 .came)
+
+returns : tie.Need-returns Inv-loop μ-loop
+returns c =
+    c .before .loop .inv .2
+    ∙ ap (λ (k : ℕ). count k (failsAt (c .before .before .args .t1)))
+    (le-antisymm (c .before .loop .inv .0) (c .loop-test .left))
+
+pub failing-spec : {M : Type 1} → statement M
+failing-spec =
+    tie.close
+    (tie.spec
+    Inv-loop
+    μ-loop
+    loop-holds
+    array-read-if1
+    add-c
+    add-k
+    loop-less
+    loop-again
+    returns)

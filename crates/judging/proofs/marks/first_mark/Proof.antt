@@ -1,0 +1,71 @@
+-- No mark passed is 2.
+use mathlib.Core.Path.{_≡_}
+use mathlib.Core.Bool.{false}
+use Prim.Native.Nat.{ℕ, _≤_, _<_, _-_}
+use native.Mathlib.Nat.{lt-irrefl}
+use native.Mathlib.Omega.{arith}
+use lib.ListN.{length}
+use borrow.Author.Count.{below-none, below-more}
+use borrow.Author.Tests.{eq-eqb, ne-eqb}
+use Rattle.mask.specs.SearchLaws.{least-by}
+use Rattle.judging.specs.Report.{failsAt}
+use borrow.Author.Needs.{needs}
+use Rattle.judging.proofs.marks.first_mark.Statement.{statement}
+use Rattle.judging.proofs.marks.first_mark.Tie as tie
+
+abbrev Inv-loop : tie.InvT-loop
+Inv-loop q k₀ k = (k ≤ 496) × (length q ≡ 496) × ((y : ℕ) → y < k → failsAt q y ≡ false)
+
+abbrev μ-loop : tie.MeasureT-loop
+μ-loop q k₀ k = 496 - k
+
+loop-holds : tie.Need-loop-holds Inv-loop μ-loop
+loop-holds c = (search needs, search needs, below-none _)
+
+array-read-if1 : tie.Need-array-read-if1 Inv-loop μ-loop
+array-read-if1 c = search needs
+
+returns : tie.Need-returns Inv-loop μ-loop
+returns c =
+    least-by 496 (failsAt (c .before .before .before .args .t1)) _
+    (record {
+      bound = c .before .before .loop .inv .0;
+      is = λ l. eq-eqb _ _ (c .if1 .taken);
+      first = c .before .before .loop .inv .2;
+    })
+
+add-k : tie.Need-add-k Inv-loop μ-loop
+add-k c = search needs
+
+loop-less : tie.Need-loop-less Inv-loop μ-loop
+loop-less c = search needs
+
+loop-again : tie.Need-loop-again Inv-loop μ-loop
+loop-again c = (
+  omega arith,
+  c .before .before .loop .inv .1,
+  below-more _ _ (c .before .before .loop .inv .2) (ne-eqb _ _ (c .if1 .left)),
+)
+
+returns-2 : tie.Need-returns-2 Inv-loop μ-loop
+returns-2 c =
+    least-by 496 (failsAt (c .before .before .args .t1)) _
+    (record {
+      bound = search needs;
+      is = λ l. absurd (lt-irrefl 496 l);
+      first = λ y l. c .before .loop .inv .2 y (omega arith);
+    })
+
+pub first-mark-spec : {M : Type 1} → statement M
+first-mark-spec =
+    tie.close
+    (tie.spec
+    Inv-loop
+    μ-loop
+    loop-holds
+    array-read-if1
+    returns
+    add-k
+    loop-less
+    loop-again
+    returns-2)

@@ -1,0 +1,18 @@
+-- The judgement says whether the pair passes.
+use Rattle.pairs.specs.RulesLaws.{fails-not-passes}
+use Rattle.judging.specs.Marking.{good, bad}
+use borrow.Author.Needs.{needs}
+use Rattle.judging.proofs.marks.mark.Statement.{statement}
+use Rattle.judging.proofs.marks.mark.Tie as tie
+
+judge-requires : tie.Need-judge-requires
+judge-requires c κs = search needs
+
+returns : tie.Need-returns
+returns c = bad (λ p. fails-not-passes (c .before .judge .ensures .failing (c .if1 .taken)) p)
+
+returns-2 : tie.Need-returns-2
+returns-2 c = good (c .before .judge .ensures .passing (c .if1 .left) .0)
+
+pub mark-spec : {M : Type 1} → statement M
+mark-spec = tie.close (tie.spec judge-requires returns returns-2)

@@ -1,0 +1,112 @@
+-- The marks before row i and those of row i up to j are filled in; what is left of the row stands for absent rules.
+use mathlib.Core.Path.{_≡_, refl}
+use mathlib.Core.Logic.{⊎-elim}
+use Prim.Native.Nat.{_≤_, _<_, _-_, _+_}
+use native.Mathlib.Omega.{arith}
+use Rattle.mask.specs.Loops.{Upto}
+use Rattle.judging.specs.Index.{start}
+use Rattle.judging.specs.IndexLaws.{index-lt}
+use Rattle.judging.specs.Marking.{MarkAt, zeros, zeros-size, mark-stored, mark-kept, row-end}
+use borrow.Author.Needs.{needs}
+use Rattle.judging.proofs.marks.row.Statement.{statement}
+use Rattle.judging.proofs.marks.row.Tie as tie
+
+abbrev Inv-loop : tie.InvT-loop
+Inv-loop g i at n q₀ j₀ q j =
+    (i < j) × (j ≤ n) × (n ≡ g .n) × (n ≤ 32) × (at ≡ start i) × Upto (MarkAt g) zeros (at + (j - (i + 1))) q
+
+abbrev μ-loop : tie.MeasureT-loop
+μ-loop g i at n q₀ j₀ q j = n - j
+
+add-j : tie.Need-add-j Inv-loop μ-loop
+add-j c = omega (arith, c .pre .few, c .pre .present)
+
+loop-holds : tie.Need-loop-holds Inv-loop μ-loop
+loop-holds c =
+    let k : c .args .at + ((c .args .i + 1) - (c .args .i + 1)) ≡ start (c .args .i) = omega (arith, c .pre .here) in (
+      omega arith,
+      omega (arith, c .pre .present),
+      refl,
+      c .pre .few,
+      c .pre .here,
+      rw k (c .pre .filled),
+    )
+
+unordered-requires : tie.Need-unordered-requires Inv-loop μ-loop
+unordered-requires c κs = (omega arith, omega arith)
+
+mark-requires : tie.Need-mark-requires Inv-loop μ-loop
+mark-requires c κs = (omega arith, omega arith)
+
+add-q : tie.Need-add-q Inv-loop μ-loop
+add-q c = search needs
+
+sub-q : tie.Need-sub-q Inv-loop μ-loop
+sub-q c = search needs
+
+-- the place of the pair
+place : (c : tie.In-loop Inv-loop μ-loop)
+    → c .before .before .args .at + (c .before .loop .j - (c .before .before .args .i + 1)) < 496
+place c =
+    omega (
+      arith,
+      c .before .loop .inv,
+      index-lt (c .before .before .args .i) (c .before .loop .j) (c .before .loop .inv .0) (omega arith),
+    )
+
+add-q-2 : tie.Need-add-q-2 Inv-loop μ-loop
+add-q-2 c = omega (arith, place (c .before .before .before))
+
+array-write-q : tie.Need-array-write-q Inv-loop μ-loop
+array-write-q c =
+    omega (arith, place (c .before .before .before), c .before .before .before .before .loop .inv .5 .len, zeros-size)
+
+add-j-2 : tie.Need-add-j-2 Inv-loop μ-loop
+add-j-2 c = search needs
+
+loop-less : tie.Need-loop-less Inv-loop μ-loop
+loop-less c = search needs
+
+loop-again : tie.Need-loop-again Inv-loop μ-loop
+loop-again c =
+    let at = c .before .before .before .loop in
+    let s = c .before .before .before .before .args in
+    let order = c .before .unordered .ensures in
+    let few : s .g .n ≤ 32 = omega arith in
+    let l : at .j < s .g .n = omega arith in
+    let stored = mark-stored (s .g) (s .i) (at .j) (s .at) (at .q) few (at .inv .0) l (at .inv .4) (at .inv .5) in
+    let kept = mark-kept (s .g) (s .i) (at .j) (s .at) (at .q) few (at .inv .0) l (at .inv .4) (at .inv .5) in (
+      omega arith,
+      omega arith,
+      at .inv .2,
+      at .inv .3,
+      at .inv .4,
+      ⊎-elim
+          (λ w. rw (w .2) (stored _ (order .unordered (w .0 .taken)) (w .1 .ensures)))
+          (λ w. rw (w .1) (kept (order .ordered (w .0 .left))))
+          (c .if1 .came),
+    )
+
+returns : tie.Need-returns Inv-loop μ-loop
+returns c =
+    let s = c .before .before .args in
+    row-end (s .g) (s .i) _ (c .before .loop .q) (omega arith) (omega arith) (omega arith) (c .before .loop .inv .5)
+
+pub row-spec : {M : Type 1} → statement M
+row-spec =
+    tie.close
+    (tie.spec
+    Inv-loop
+    μ-loop
+    add-j
+    loop-holds
+    unordered-requires
+    mark-requires
+    add-q
+    sub-q
+    add-q-2
+    array-write-q
+    add-j-2
+    loop-less
+    loop-again
+    returns)

@@ -1,0 +1,102 @@
+-- The rows that the code works on describe the same rules as the four masks do. Assumes nothing.
+use mathlib.Core.Path.{_≡_, refl, sym, ap, _∙_}
+use mathlib.Core.Bool.{Bool, true, false, not, false≢true}
+use mathlib.Core.List.{List}
+use Prim.Native.Nat.{ℕ, _≤_}
+use native.Mathlib.Nat.{le-trans, lt-irrefl}
+use lib.ListN.{getD}
+use Rattle.mask.specs.Mask.{has}
+use Rattle.mask.specs.Bits.{below, has-zero}
+use Rattle.graph.specs.Graph.{Leads, directly, through, leads, Rows}
+use Rattle.graph.specs.GraphLaws.{leads-iff, leads-below}
+use Rattle.pairs.specs.declared.Masks.{Masks}
+use Rattle.pairs.specs.Masks.{mayTrigger, commute, rulesOf, rowsOf, triggers, clashes, edge, rowRules}
+use Rattle.pairs.specs.Tables.{rows-has, rows-lt}
+use Rattle.pairs.specs.MasksLaws.{quiet, deaf, absent-commutes, commute-sym}
+use Rattle.pairs.specs.RulesLaws.{Alike}
+use Rattle.judging.specs.Cleared.{Orderly}
+
+-- mask r: the rules that r goes before
+unfoldable pub befores : Masks → List ℕ
+befores m = rowsOf (leads (m .precedes) (m .n))
+
+-- a relation of rules below n only
+pub record Within (n : ℕ) (f : ℕ → ℕ → Bool) : Type 0 where
+  pub from : (r s : ℕ) → n ≤ r → f r s ≡ false
+  pub to : (r s : ℕ) → n ≤ s → f r s ≡ false
+
+within-has : (n : ℕ) (f : ℕ → ℕ → Bool) → n ≤ 32 → Within n f → (r s : ℕ) → edge (rowsOf f) r s ≡ f r s
+within-has n f few w = rows-has f (λ r s l. w .from r s (le-trans few l)) (λ r s l. w .to r s (le-trans few l))
+
+module _ (m : Masks) (o : Orderly m) where
+  -- ---- the three relations know no rule from n up
+
+  pub may-within : Within (m .n) (mayTrigger m)
+  may-within = record { from = λ r s l. quiet m r s (o .writes r l); to = λ r s l. deaf m r s (o .watch s l) }
+
+  absent : (r s : ℕ) → m .n ≤ s → commute m r s ≡ true
+  absent r s l = absent-commutes m r s (o .watch s l) (o .reads s l) (o .writes s l)
+
+  pub clash-within : Within (m .n) (λ r s. not (commute m r s))
+  clash-within =
+      record { from = λ r s l. ap not (commute-sym m r s ∙ absent s r l); to = λ r s l. ap not (absent r s l) }
+
+  pub before-within : Within (m .n) (leads (m .precedes) (m .n))
+  before-within =
+      record {
+        from = λ r s l. goes r s (leads (m .precedes) (m .n) r s) refl (nowhere l);
+        to = λ r s l.
+            goes r s (leads (m .precedes) (m .n) r s) refl
+            (λ w. lt-irrefl s (le-trans (leads-below (m .n) (o .named) w) l));
+      }
+    where
+      goes : (r s : ℕ) (b : Bool) → leads (m .precedes) (m .n) r s ≡ b → (Leads (m .precedes) r s → ⊥) → b ≡ false
+      goes r s true e never = absurd (never (leads-iff (m .n) (m .precedes) (o .named) r s .0 e))
+      goes r s false e never = refl
+
+      none : (r t : ℕ) → m .n ≤ r → edge (m .precedes) r t ≡ true → ⊥
+      none r t l e = false≢true (sym (ap (λ (x : ℕ). has x t) (o .precedes r l) ∙ has-zero t) ∙ e)
+
+      nowhere : {r s : ℕ} → m .n ≤ r → Leads (m .precedes) r s → ⊥
+      nowhere {r} {s} l (directly e) = none r s l e
+      nowhere {r} l (through {t = t} e w) = none r t l e
+
+  -- ---- so the rows have them whole
+
+  pub triggers-has : (r s : ℕ) → edge (triggers m) r s ≡ mayTrigger m r s
+  unfolding triggers
+  triggers-has = within-has (m .n) (mayTrigger m) (o .few) may-within
+
+  clashes-has : (r s : ℕ) → edge (clashes m) r s ≡ not (commute m r s)
+  unfolding clashes
+  clashes-has = within-has (m .n) (λ r s. not (commute m r s)) (o .few) clash-within
+
+  -- no mask of the trigger graph names a rule from n up
+  pub triggers-rows : Rows (m .n) (triggers m)
+  unfolding triggers
+  triggers-rows r =
+      below 32 (m .n) (getD (triggers m) r 0) (rows-lt (mayTrigger m) r) (λ s l. triggers-has r s ∙ may-within .to r s l)
+
+  twice : (b : Bool) → not (not b) ≡ b
+  twice true = refl
+  twice false = refl
+
+  -- the rows that the code makes
+  pub alike-by : (trig before clash : List ℕ) → trig ≡ triggers m
+      → ((r s : ℕ) → edge before r s ≡ leads (m .precedes) (m .n) r s) → clash ≡ clashes m
+      → Alike (rowRules trig before clash) (rulesOf m)
+  alike-by trig before clash e h f =
+      rw (e, f)
+      (record {
+        may = triggers-has;
+        there = λ r s e. leads-iff (m .n) (m .precedes) (o .named) r s .0 (sym (h r s) ∙ e);
+        back = λ r s w. h r s ∙ leads-iff (m .n) (m .precedes) (o .named) r s .1 w;
+        commute = λ r s. ap not (clashes-has r s) ∙ twice (commute m r s);
+      })
+
+  -- the rows that are defined
+  pub alike-rows : Alike (rowRules (triggers m) (befores m) (clashes m)) (rulesOf m)
+  unfolding befores
+  alike-rows =
+      alike-by (triggers m) (befores m) (clashes m) refl
+      (within-has (m .n) (leads (m .precedes) (m .n)) (o .few) before-within) refl

@@ -1,0 +1,61 @@
+-- The report, computed: for a case that is written out. Assumes nothing.
+use mathlib.Core.Bool.{_&&_, _||_, cond}
+use mathlib.Core.List.{List}
+use Prim.Native.Nat.{ℕ, zero, suc, _+_, _-_}
+use lib.Dec.{eqb, leb, ltb}
+use Rattle.mask.specs.Search.{count, least}
+use Rattle.mask.specs.Mask.{maskOf}
+use Rattle.graph.specs.Graph.{leads}
+use Rattle.pairs.specs.declared.Masks.{Masks}
+use Rattle.pairs.specs.Masks.{triggers, clashes, tableOf, edge}
+use Rattle.pairs.specs.Verdict.{verdict}
+use Rattle.judging.specs.declared.Report.{Report}
+use Rattle.judging.specs.declared.marks.Graphs.{Graphs}
+use Rattle.judging.specs.Report.{failsAt}
+use Rattle.judging.specs.Alike.{befores}
+
+unfoldable pub graphsOf : Masks → Graphs
+graphsOf m = record { n = m .n; trig = triggers m; before = befores m; clash = clashes m }
+
+-- the mark of i and j, i below j
+unfoldable pub markOf : Graphs → ℕ → ℕ → ℕ
+markOf g i j =
+    cond (leb (g .n) j) 0
+    (cond (edge (g .before) i j || edge (g .before) j i) 0 (cond (verdict (g .trig) (g .before) (g .clash) i j .0) 2 1))
+
+-- the pair that stands `left` places after the start of row i; k more rows are looked at
+unfoldable pub locate : ℕ → ℕ → ℕ → ℕ × ℕ
+locate zero i left = (i, suc i + left)
+locate (suc k) i left = cond (ltb left (31 - i)) (i, suc i + left) (locate k (suc i) (left - (31 - i)))
+
+unfoldable pub marksOf : Graphs → List ℕ
+marksOf g = tableOf 496 (λ k. markOf g (locate 31 0 k .0) (locate 31 0 k .1))
+
+-- the first failing pair and its culprits, or zeros
+unfoldable pub firstOf : Graphs → List ℕ → ℕ × ℕ × ℕ × ℕ
+firstOf g q =
+    let p = locate 31 0 (least 496 (failsAt q)) in
+    let v = verdict (g .trig) (g .before) (g .clash) (p .0) (p .1) in
+    cond (ltb (least 496 (failsAt q)) 496) (p .0, p .1, v .1, v .2) (0, 0, 0, 0)
+
+unfoldable pub reportBy : Graphs → Report
+reportBy g =
+    let q = marksOf g in
+    let f = maskOf 32 (λ r. leads (g .trig) (g .n) r r) in
+    let c = count 496 (failsAt q) in
+    let w = firstOf g q in
+    record {
+      number = 0;
+      place = 255;
+      cleared = eqb f 0 && eqb c 0;
+      faulty = f;
+      marks = q;
+      failing = c;
+      first = w .0;
+      second = w .1;
+      culprit = w .2;
+      other = w .3;
+    }
+
+abbrev pub reportOf : Masks → Report
+reportOf m = reportBy (graphsOf m)

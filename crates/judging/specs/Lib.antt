@@ -1,0 +1,19 @@
+-- The report: `Index`, `Cleared`, `Report` and `Bound` have the definitions; `Compute` computes and `Cases` has worked
+-- cases; the others are laws.
+pub mod Index
+pub mod IndexLaws
+pub mod Counts
+pub mod Cleared
+pub mod Report
+pub mod ReportLaws
+pub mod Marking
+pub mod Alike
+pub mod ClearedLaws
+pub mod Reporting
+pub mod Sides
+pub mod Bound
+pub mod BoundLaws
+pub mod Compute
+pub mod ComputeLaws
+pub mod Written
+pub mod Cases

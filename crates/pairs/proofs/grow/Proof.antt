@@ -1,0 +1,27 @@
+-- What one of a may trigger, cut down to what goes before one of b, joins a.
+use mathlib.Core.Path.{ap, ap₂, _∙_}
+use mathlib.Core.Bool.{Bool, _||_, _&&_}
+use Rattle.mask.specs.Mask.{has}
+use Rattle.mask.specs.Bits.{has-or, has-and}
+use Rattle.pairs.specs.Growing.{grows}
+use borrow.Author.Needs.{needs}
+use Rattle.pairs.proofs.grow.Statement.{statement}
+use Rattle.pairs.proofs.grow.Tie as tie
+
+gather-requires : tie.Need-gather-requires
+gather-requires c κs = search needs
+
+touching-requires : tie.Need-touching-requires
+touching-requires c κs = search needs
+
+returns : tie.Need-returns
+unfolding grows
+returns c s =
+    let a = c .before .before .args .a in
+    has-or a _ s
+    ∙ ap (λ (x : Bool). has a s || x)
+    (has-and (c .before .gather .result) (c .touching .result) s ∙ ap₂ _&&_ (c .before .gather .ensures s)
+    (c .touching .ensures s))
+
+pub grow-spec : {M : Type 1} → statement M
+grow-spec = tie.close (tie.spec gather-requires touching-requires returns)

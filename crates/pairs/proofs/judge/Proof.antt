@@ -1,0 +1,84 @@
+-- The rules of R1 that do not commute with some rule of R2 are a mask; the first culprit is its lowest, and the other
+-- the lowest of R2 that clashes with that one.
+use mathlib.Core.Path.{ap, _∙_}
+use mathlib.Core.Bool.{Bool, _&&_}
+use Prim.Native.Nat.{_≤_}
+use native.Mathlib.Omega.{arith}
+use Rattle.mask.specs.Mask.{has}
+use Rattle.mask.specs.MaskLaws.{lowest-is}
+use Rattle.pairs.specs.Verdict.{guilty, judged-passing, judged-failing}
+use borrow.Author.Needs.{needs}
+use Rattle.pairs.proofs.judge.Statement.{statement}
+use Rattle.pairs.proofs.judge.Tie as tie
+
+grown-requires : tie.Need-grown-requires
+grown-requires c κs = search needs
+
+touching-requires : tie.Need-touching-requires
+touching-requires c κs = search needs
+
+common-requires : tie.Need-common-requires
+common-requires c κs = search needs
+
+lowest-requires : tie.Need-lowest-requires
+lowest-requires c κs = search needs
+
+mul-common : tie.Need-mul-common
+mul-common c = search needs
+
+array-read-common : tie.Need-array-read-common
+array-read-common c = search needs
+
+common-requires-2 : tie.Need-common-requires-2
+common-requires-2 c κs = search needs
+
+lowest-requires-2 : tie.Need-lowest-requires-2
+lowest-requires-2 c κs = search needs
+
+-- the second culprit is a small number too
+small : (c : tie.After-lowest2) → c .lowest2 .result ≤ 32
+small c = omega (arith, c .lowest2 .ensures, lowest-is (c .before .common2 .result) .bound)
+
+cast-t22 : tie.Need-cast-t22
+cast-t22 c = omega (arith, small c)
+
+cast-t23 : tie.Need-cast-t23
+cast-t23 c = omega (arith, small c)
+
+returns : tie.Need-returns
+unfolding guilty
+returns c =
+    let p = c .before .before .before .before in
+    judged-failing (p .before .before .before .args .t3) (p .before .before .grown .ensures) (omega arith)
+    (omega arith) (p .common .result)
+    (λ r l. p .common .ensures r ∙ ap (λ (x : Bool). has (p .before .before .grown .result .first) r && x)
+    (p .before .touching .ensures r))
+    _ _ (c .before .common2 .result) (c .before .before .before .lowest .ensures) (c .before .before .if1 .taken)
+    (λ y l. c .before .common2 .ensures y) (c .lowest2 .ensures)
+
+returns-2 : tie.Need-returns-2
+unfolding guilty
+returns-2 c =
+    let p = c .before .before in
+    judged-passing (p .before .before .before .args .t3) (p .before .before .grown .ensures) (omega arith)
+    (omega arith) (p .common .result)
+    (λ r l. p .common .ensures r ∙ ap (λ (x : Bool). has (p .before .before .grown .result .first) r && x)
+    (p .before .touching .ensures r))
+    _ (c .before .lowest .ensures) (c .if1 .left)
+
+pub judge-spec : {M : Type 1} → statement M
+judge-spec =
+    tie.close
+    (tie.spec
+    grown-requires
+    touching-requires
+    common-requires
+    lowest-requires
+    mul-common
+    array-read-common
+    common-requires-2
+    lowest-requires-2
+    cast-t22
+    cast-t23
+    returns
+    returns-2)

@@ -1,0 +1,88 @@
+-- The rules passed are not in `left`, or may trigger one of it.
+use mathlib.Core.Path.{_≡_, sym, _∙_}
+use mathlib.Core.Logic.{⊎-elim}
+use mathlib.Core.Bool.{true, false≢true}
+use Prim.Native.Nat.{ℕ, _-_, _≤_, _<_}
+use native.Mathlib.Nat.{lt-irrefl, not-suc-le-zero}
+use native.Mathlib.Omega.{arith}
+use lib.ListN.{length, getD}
+use borrow.Author.Count.{below-more}
+use borrow.Author.Tests.{not-true, not-false}
+use Rattle.mask.specs.Mask.{has, meet}
+use borrow.Author.Needs.{needs}
+use Rattle.weights.proofs.ready.Statement.{statement}
+use Rattle.weights.proofs.ready.Tie as tie
+
+abbrev Inv-loop : tie.InvT-loop
+Inv-loop left trig x₀ x =
+    (x ≤ 32) × (length trig ≡ 32) × ((y : ℕ) → y < x → has left y ≡ true → meet (getD trig y 0) left ≡ true)
+
+abbrev μ-loop : tie.MeasureT-loop
+μ-loop left trig x₀ x = 32 - x
+
+loop-holds : tie.Need-loop-holds Inv-loop μ-loop
+loop-holds c = (search needs, search needs, λ y l e. absurd (not-suc-le-zero l))
+
+has-requires : tie.Need-has-requires Inv-loop μ-loop
+has-requires c κs = search needs
+
+mul-meets : tie.Need-mul-meets Inv-loop μ-loop
+mul-meets c = search needs
+
+array-read-meets : tie.Need-array-read-meets Inv-loop μ-loop
+array-read-meets c = search needs
+
+meets-requires : tie.Need-meets-requires Inv-loop μ-loop
+meets-requires c κs = search needs
+
+returns : tie.Need-returns Inv-loop μ-loop
+returns c =
+    record {
+      taken = λ l. (
+        sym (c .before .before .before .has .ensures) ∙ c .before .before .if1 .taken,
+        sym (c .before .meets .ensures) ∙ not-true _ (c .if2 .taken),
+      );
+      passed = c .before .before .before .before .before .loop .inv .2;
+      bound = omega arith;
+    }
+
+add-x : tie.Need-add-x Inv-loop μ-loop
+add-x c = search needs
+
+loop-less : tie.Need-loop-less Inv-loop μ-loop
+loop-less c = search needs
+
+loop-again : tie.Need-loop-again Inv-loop μ-loop
+loop-again c = (
+  omega arith,
+  search needs,
+  below-more _ _ (c .before .before .before .loop .inv .2) (λ e.
+      ⊎-elim (λ w. sym (w .1 .ensures) ∙ not-false _ (w .2 .left))
+      (λ w. absurd (false≢true (sym (w .left) ∙ c .before .has .ensures ∙ e)))
+      (c .if1 .came)),
+)
+
+returns-2 : tie.Need-returns-2 Inv-loop μ-loop
+returns-2 c =
+    record {
+      taken = λ l. absurd (lt-irrefl 32 l);
+      passed = λ x l. c .before .loop .inv .2 x (omega arith);
+      bound = omega arith;
+    }
+
+pub ready-spec : {M : Type 1} → statement M
+ready-spec =
+    tie.close
+    (tie.spec
+    Inv-loop
+    μ-loop
+    loop-holds
+    has-requires
+    mul-meets
+    array-read-meets
+    meets-requires
+    returns
+    add-x
+    loop-less
+    loop-again
+    returns-2)

@@ -1,0 +1,95 @@
+-- The loop has the sum over the members passed. No sum on the way is more than all entries together.
+use mathlib.Core.Path.{_≡_, refl, sym, _∙_, ap}
+use mathlib.Core.Logic.{⊎-elim}
+use mathlib.Core.Bool.{Bool, true, false, cond}
+use mathlib.Core.List.{List}
+use Prim.Native.Nat.{ℕ, _^_, _-_, _+_, _≤_, _<_}
+use native.Mathlib.Nat.{add-zero, le-antisymm}
+use native.Mathlib.Omega.{arith}
+use lib.ListN.{length}
+use Rattle.mask.specs.Mask.{has}
+use Rattle.weights.specs.Weight.{total, whole, at}
+use Rattle.weights.specs.Sums.{total-le, total-more, whole-at}
+use borrow.Author.Needs.{needs}
+use Rattle.weights.proofs.total.Statement.{statement}
+use Rattle.weights.proofs.total.Tie as tie
+
+-- one number further: t has got what the test says
+turn : (m : ℕ) (w : List ℕ) (x t : ℕ) (b : Bool) → has m x ≡ b → t ≡ total x m (at w)
+    → t + cond b (at w x) 0 ≡ total (x + 1) m (at w)
+turn m w x t b h q =
+    ap (λ (k : ℕ). k + cond b (at w x) 0) q
+    ∙ sym (total-more x m (at w) ∙ ap (λ (c : Bool). total x m (at w) + cond c (at w x) 0) h)
+
+abbrev Inv-loop : tie.InvT-loop
+Inv-loop m w t₀ x₀ t x = (x ≤ 32) × (length w ≡ 32) × (t ≡ total x m (at w)) × (whole 32 (at w) < 2 ^ 32)
+
+abbrev μ-loop : tie.MeasureT-loop
+μ-loop m w t₀ x₀ t x = 32 - x
+
+loop-holds : tie.Need-loop-holds Inv-loop μ-loop
+unfolding total
+loop-holds c = (search needs, search needs, refl, c .pre)
+
+has-requires : tie.Need-has-requires Inv-loop μ-loop
+has-requires c κs = search needs
+
+mul-t : tie.Need-mul-t Inv-loop μ-loop
+mul-t c = search needs
+
+array-read-t : tie.Need-array-read-t Inv-loop μ-loop
+array-read-t c = search needs
+
+add-t : tie.Need-add-t Inv-loop μ-loop
+add-t c =
+    let at-loop = c .before .before .before .loop in
+    let w = c .before .before .before .before .args .t1 in
+    omega (
+      arith,
+      at-loop .inv,
+      total-le (at-loop .x) (c .before .before .before .before .args .m) (at w),
+      whole-at 32 (at w) (at-loop .x) (c .before .before .loop-test .taken),
+    )
+
+add-x : tie.Need-add-x Inv-loop μ-loop
+add-x c = search needs
+
+loop-less : tie.Need-loop-less Inv-loop μ-loop
+loop-less c = search needs
+
+loop-again : tie.Need-loop-again Inv-loop μ-loop
+loop-again c =
+    let inv = c .before .before .before .loop .inv in
+    let go = turn (c .before .before .before .before .args .m) (c .before .before .before .before .args .t1) _ _ in
+    ⊎-elim
+    (λ w. (omega arith, inv .1, w .1 ∙ go true (sym (c .before .has .ensures) ∙ w .0 .taken) (inv .2), inv .3))
+    (λ w. (
+      omega arith,
+      inv .1,
+      w .1 ∙ sym (add-zero _) ∙ go false (sym (c .before .has .ensures) ∙ w .0 .left)
+          (inv .2),
+      inv .3,
+    ))
+    (c .if1 .came)
+
+returns : tie.Need-returns Inv-loop μ-loop
+returns c =
+    c .before .loop .inv .2
+    ∙ ap (λ (k : ℕ). total k (c .before .before .args .m) (at (c .before .before .args .t1)))
+    (le-antisymm (c .before .loop .inv .0) (c .loop-test .left))
+
+pub total-spec : {M : Type 1} → statement M
+total-spec =
+    tie.close
+    (tie.spec
+    Inv-loop
+    μ-loop
+    loop-holds
+    has-requires
+    mul-t
+    array-read-t
+    add-t
+    add-x
+    loop-less
+    loop-again
+    returns)

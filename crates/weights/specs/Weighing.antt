@@ -1,0 +1,183 @@
+-- What weighing one rule after another keeps: the weights found so far have room, and every rule outside `left` that
+-- some rule may trigger halts. Assumes nothing.
+use mathlib.Core.Path.{_≡_, refl, sym, ap, ap₂, _∙_, subst}
+use mathlib.Core.Logic.{_≢_}
+use mathlib.Core.Bool.{Bool, true, false, not, _&&_, false≢true, and-false}
+use mathlib.Core.List.{List}
+use Prim.Native.Nat.{ℕ, zero, suc, _+_, _*_, _^_, _≤_, _<_}
+use native.Mathlib.Nat.{le-trans, le-of-eq, mul-le-mul-left, mul-le-mul-right, mul-assoc, mul-comm, pow-suc, one-mul}
+use native.Mathlib.Decide.{ℕ-discrete}
+use native.Mathlib.Omega.{arith}
+use lib.Dec.{eqb}
+use lib.ListN.{getD, set, length, replicate}
+use lib.Pow.{pow-pos, pow-mono}
+use lib.Seq.{getD-set-same, getD-set-other}
+use borrow.Author.Tests.{eq-eqb, ne-eqb}
+use Rattle.mask.specs.Search.{count}
+use Rattle.mask.specs.SearchLaws.{Found, some-elim, some-false, and-true-both, count-max, count-drop}
+use Rattle.mask.specs.Mask.{has, meet}
+use Rattle.mask.specs.Bits.{has-lt}
+use Rattle.graph.specs.Graph.{Edge, Rows}
+use Rattle.graph.specs.Halts.{Halts, halts}
+use Rattle.weights.specs.Weight.{total, whole, at}
+use Rattle.weights.specs.Sums.{total-same, whole-set}
+
+-- r is the lowest rule of `left` that may trigger none of `left`, or 32
+pub record Ready (trig : List ℕ) (left r : ℕ) : Type 0 where
+  pub taken : r < 32 → (has left r ≡ true) × (meet (getD trig r 0) left ≡ false)
+  pub passed : (x : ℕ) → x < r → has left x ≡ true → meet (getD trig x 0) left ≡ true
+  pub bound : r ≤ 32
+
+-- with T the sum so far and c rules left, T + 1 is at most 2 ^ (32 - c)
+unfoldable pub Room : List ℕ → ℕ → Type 0
+Room w left = (whole 32 (at w) + 1) * 2 ^ count 32 (has left) ≤ 2 ^ 32
+
+-- the rules outside `left` are weighed, those of `left` are not
+pub record Weighable (trig : List ℕ) (left : ℕ) (w : List ℕ) : Type 0 where
+  pub rows : Rows 32 trig
+  pub room : Room w left
+  pub halted : (r s : ℕ) → Edge trig r s → has left s ≡ false → Halts trig s
+
+-- v has the weights of the rules of `left` that halt, and is w elsewhere
+pub record Weighed (trig : List ℕ) (left : ℕ) (w v : List ℕ) : Type 0 where
+  pub weight : (r : ℕ) → has left r ≡ true → Halts trig r → at v r ≡ 1 + total 32 (getD trig r 0) (at v)
+  pub endless : (r : ℕ) → (Halts trig r → ⊥) → at v r ≡ at w r
+  pub same : (r : ℕ) → has left r ≡ false → at v r ≡ at w r
+  pub fits : whole 32 (at v) < 2 ^ 32
+
+-- ---- room
+
+pub room-start : (left : ℕ) → Room (replicate 32 0) left
+unfolding Room whole
+room-start left = le-trans (le-of-eq (one-mul (2 ^ count 32 (has left)))) (pow-mono (count-max 32 (has left)))
+
+pub room-fits : (w : List ℕ) (left : ℕ) → Room w left → whole 32 (at w) < 2 ^ 32
+unfolding Room
+room-fits w left h =
+    let k : ℕ = count 32 (has left) in
+    let e : (whole 32 (at w) + 1) * 1 ≤ (whole 32 (at w) + 1) * 2 ^ k =
+    mul-le-mul-left (whole 32 (at w) + 1) (pow-pos k) in
+    omega (arith, e, h)
+
+twice : (a k : ℕ) → (a * 2) * 2 ^ k ≡ a * 2 ^ suc k
+twice a k = mul-assoc a 2 (2 ^ k) ∙ ap (λ (x : ℕ). a * x) (mul-comm 2 (2 ^ k) ∙ sym (pow-suc 2 k))
+
+-- a rule that is left has room for one more than all the others together
+pub room-one : (w : List ℕ) (left r : ℕ) → r < 32 → has left r ≡ true → Room w left → whole 32 (at w) + 1 < 2 ^ 32
+unfolding Room
+room-one w left r l m h =
+    let k : ℕ = count 32 (λ x. has left x && not (eqb x r)) in
+    let e : count 32 (has left) ≡ suc k = count-drop 32 (has left) (λ x. has left x && not (eqb x r)) r l m (λ x. refl) in
+    let a : (whole 32 (at w) + 1) * 2 * 1 ≤ (whole 32 (at w) + 1) * 2 * 2 ^ k =
+    mul-le-mul-left ((whole 32 (at w) + 1) * 2) (pow-pos k) in
+    let b : (whole 32 (at w) + 1) * 2 * 2 ^ k ≤ 2 ^ 32 =
+    le-trans (le-of-eq (twice (whole 32 (at w) + 1) k ∙ ap (λ (x : ℕ). (whole 32 (at w) + 1) * 2 ^ x) (sym e))) h in
+    omega (arith, a, b)
+
+pub room-next : (w : List ℕ) (left left′ i v : ℕ) → i < length w → v ≤ whole 32 (at w) + 1
+    → count 32 (has left) ≡ suc (count 32 (has left′)) → Room w left → Room (set w i v) left′
+unfolding Room
+room-next w left left′ i v h l e r =
+    let k : ℕ = count 32 (has left′) in
+    let s : whole 32 (at (set w i v)) ≤ whole 32 (at w) + v = whole-set w i v 32 h in
+    let a : (whole 32 (at (set w i v)) + 1) * 2 ^ k ≤ ((whole 32 (at w) + 1) * 2) * 2 ^ k =
+    mul-le-mul-right (2 ^ k) (omega arith) in
+    le-trans a (le-trans
+    (le-of-eq (twice (whole 32 (at w) + 1) k ∙ ap (λ (x : ℕ). (whole 32 (at w) + 1) * 2 ^ x) (sym e))) r)
+
+-- ---- a rule that is ready halts; where none is ready, none of `left` halts
+
+module _ {trig : List ℕ} {left : ℕ} (fl : left < 2 ^ 32) where
+  pub stuck : {r : ℕ} → ((x : ℕ) → x < 32 → has left x ≡ true → meet (getD trig x 0) left ≡ true)
+      → Halts trig r → has left r ≡ true → ⊥
+  unfolding meet
+  stuck h (halts {r = r} f) e =
+      let w : Found 32 (λ s. has (getD trig r 0) s && has left s) =
+      some-elim 32 (λ s. has (getD trig r 0) s && has left s) (h r (has-lt 32 r fl e) e) in
+      let p : (has (getD trig r 0) (w .at) ≡ true) × (has left (w .at) ≡ true) =
+      and-true-both (has (getD trig r 0) (w .at)) (has left (w .at)) (w .is) in
+      stuck h (f (w .at) (p .0)) (p .1)
+
+-- what r may trigger is outside `left`
+outside : (trig : List ℕ) (left r : ℕ) → meet (getD trig r 0) left ≡ false
+    → (s : ℕ) → s < 32 → has (getD trig r 0) s ≡ true → has left s ≡ false
+unfolding meet
+outside trig left r d s l e =
+    sym (ap (λ (b : Bool). b && has left s) e) ∙ some-false 32 (λ i. has (getD trig r 0) i && has left i) d s l
+
+-- ---- a call that weighs nothing
+
+pub weighed-none : (trig : List ℕ) (left : ℕ) (w : List ℕ) (r : ℕ) → left < 2 ^ 32 → 32 ≤ r → Ready trig left r
+    → Weighable trig left w → Weighed trig left w w
+weighed-none trig left w r fl l d a =
+    record {
+      weight = λ x e h. absurd (stuck fl (λ y m. d .passed y (le-trans m l)) h e);
+      endless = λ x h. refl;
+      same = λ x e. refl;
+      fits = room-fits w left (a .room);
+    }
+
+-- ---- a call that weighs r
+
+module _ (trig : List ℕ) (left left′ : ℕ) (w : List ℕ) (r : ℕ) (lr : r < 32) (lw : r < length w)
+    (d : Ready trig left r) (a : Weighable trig left w)
+    (hl : (k : ℕ) → has left′ k ≡ (has left k && not (eqb k r))) where
+  ready-halts : Halts trig r
+  ready-halts =
+      halts (λ s e. a .halted r s e (outside trig left r (d .taken lr .1) s (has-lt 32 s (a .rows r) e) e))
+
+  pub weighable-next : (v : ℕ) → v ≤ whole 32 (at w) + 1 → count 32 (has left) ≡ suc (count 32 (has left′))
+      → Weighable trig left′ (set w r v)
+  weighable-next v lv e =
+      record {
+        rows = a .rows;
+        room = room-next w left left′ r v lw lv e (a .room);
+        halted = λ x s edge out.
+            elim (ℕ-discrete s r) [
+              | yes z ↦ subst (Halts trig) (sym z) ready-halts
+              | no z ↦ a .halted x s edge (back (has left s) (eqb s r) (ne-eqb s r z) (sym (hl s) ∙ out))
+            ];
+      }
+    where
+      back : (x y : Bool) → y ≡ false → (x && not y) ≡ false → x ≡ false
+      back true y e q = sym (ap not e) ∙ q
+      back false y e q = refl
+
+  pub weighed-more : (v : List ℕ) (t : ℕ) → t ≡ total 32 (getD trig r 0) (at w)
+      → Weighed trig left′ (set w r (t + 1)) v → Weighed trig left w v
+  weighed-more v t q u =
+      record {
+        weight = λ x e h.
+            elim (ℕ-discrete x r) [
+              | yes z ↦ subst (λ (y : ℕ). at v y ≡ 1 + total 32 (getD trig y 0) (at v)) (sym z) here
+              | no z ↦ u .weight x (hl x ∙ ap₂ (λ (a b : Bool). a && not b) e (ne-eqb x r z)) h
+            ];
+        endless =
+            λ x h. u .endless x h ∙ getD-set-other w r x (t + 1) 0 (λ z. h (subst (Halts trig) (sym z) ready-halts));
+        same = λ x e. kept x (ne x e) e;
+        fits = u .fits;
+      }
+    where
+      ne : (x : ℕ) → has left x ≡ false → x ≢ r
+      ne x e z = false≢true (sym e ∙ ap (has left) z ∙ d .taken lr .0)
+
+      kept : (x : ℕ) → x ≢ r → has left x ≡ false → at v x ≡ at w x
+      kept x z e = u .same x (hl x ∙ ap (λ (b : Bool). b && not (eqb x r)) e) ∙ getD-set-other w r x (t + 1) 0 z
+
+      sum : total 32 (getD trig r 0) (at w) ≡ total 32 (getD trig r 0) (at v)
+      sum =
+          total-same 32 (getD trig r 0) (at w) (at v) (λ s m e.
+          let o : has left s ≡ false = outside trig left r (d .taken lr .1) s m e in sym (kept s (ne s o) o))
+
+      here : at v r ≡ 1 + total 32 (getD trig r 0) (at v)
+      here =
+          u .same r (hl r ∙ ap (λ (b : Bool). has left r && not b) (eq-eqb r r refl) ∙ and-false (has left r))
+          ∙ getD-set-same w r (t + 1) 0 lw
+          ∙ (let e : t ≡ total 32 (getD trig r 0) (at v) = q ∙ sum in omega (arith, e))
+
+-- ---- the start: no weights yet
+
+pub zeros-at : (n r : ℕ) → _≡_ {A = ℕ} (getD (replicate n 0) r 0) 0
+zeros-at zero r = refl
+zeros-at (suc n) zero = refl
+zeros-at (suc n) (suc r) = zeros-at n r
