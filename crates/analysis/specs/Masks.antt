@@ -1,6 +1,5 @@
 -- The four rows of masks of a table: all that the analysis knows of it. Assumes nothing.
 use mathlib.Core.Path.{_≡_}
-use Prim.Native.Nat.{ℕ, _^_, _<_}
 use Rattle.mask.specs.Mask.{maskOf}
 use Rattle.rule.specs.Fill.{filled}
 use Rattle.rule.specs.Uses.{reads, writes}

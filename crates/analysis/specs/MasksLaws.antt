@@ -1,19 +1,16 @@
 -- The masks of a sound table are orderly. Assumes nothing.
-use mathlib.Core.Path.{_≡_, sym, ap, _∙_, subst}
+use mathlib.Core.Path.{sym, subst}
 use mathlib.Core.Logic.{⊎-elim}
-use mathlib.Core.List.{List}
 use Prim.Native.Nat.{ℕ, _^_, _≤_, _<_}
-use lib.ListN.{getD, length, List·getD-eq-default}
+use lib.ListN.{List·getD-eq-default}
 use Rattle.mask.specs.SearchLaws.{lt-or-ge}
-use Rattle.graph.specs.Graph.{Leads}
 use Rattle.graph.specs.GraphLaws.{leads-below}
 use Rattle.rule.specs.Fill.{filled, getD-left, length-filled}
 use Rattle.book.specs.declared.Table.{Table}
-use Rattle.book.specs.Table.{ruleAt, precedesOf, goesBefore}
+use Rattle.book.specs.Table.{ruleAt}
 use Rattle.book.specs.Check.{Sound}
 use Rattle.book.specs.Sound.{parts}
 use Rattle.book.specs.Before.{irreflexive, precedes-rows, before-iff}
-use Rattle.pairs.specs.declared.Masks.{Masks}
 use Rattle.judging.specs.Cleared.{Past, Orderly}
 use Rattle.analysis.specs.Masks.{masksOf}
 

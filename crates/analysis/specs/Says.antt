@@ -4,7 +4,7 @@ use mathlib.Core.Bool.{false}
 use Prim.Native.Nat.{ℕ}
 use lib.ListN.{replicate}
 use Rattle.book.specs.declared.Table.{Table}
-use Rattle.book.specs.Check.{checkOf, Sound}
+use Rattle.book.specs.Check.{checkOf}
 use Rattle.judging.specs.declared.Report.{Report}
 use Rattle.judging.specs.declared.Bound.{Bound}
 use Rattle.judging.specs.Report.{Reported}

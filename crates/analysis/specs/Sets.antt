@@ -1,20 +1,19 @@
 -- The masks of a table are the sets of cells that its rules watch, read and write, and what the analysis makes of them is said in
 -- those sets. Assumes nothing.
-use mathlib.Core.Path.{_≡_, refl, sym, ap, ap₂, _∙_}
+use mathlib.Core.Path.{_≡_, sym, ap, ap₂, _∙_}
 use mathlib.Core.Bool.{Bool, true, false, _&&_, _||_, false≢true, or-true}
-use Prim.Native.Nat.{ℕ, _≤_, _<_}
+use Prim.Native.Nat.{ℕ, _<_}
 use lib.ListN.{getD}
-use Rattle.mask.specs.Search.{some}
 use Rattle.mask.specs.SearchLaws.{some-intro}
 use Rattle.mask.specs.Mask.{has, meet, maskOf}
 use Rattle.mask.specs.Loops.{picked-all, maskOf-picked}
-use Rattle.rule.specs.Fill.{filled, getD-filled}
+use Rattle.rule.specs.Fill.{getD-filled}
 use Rattle.rule.specs.Uses.{watches, reads, writes}
 use Rattle.book.specs.declared.Table.{Table}
 use Rattle.book.specs.Table.{ruleAt}
 use Rattle.pairs.specs.declared.Masks.{Masks}
 use Rattle.pairs.specs.Masks.{mayTrigger, writesInto, commute}
-use Rattle.pairs.specs.MasksLaws.{Apart, commute-apart}
+use Rattle.pairs.specs.MasksLaws.{commute-apart}
 use Rattle.analysis.specs.Masks.{masksOf}
 
 -- two masks that share a member meet

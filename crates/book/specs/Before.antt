@@ -1,24 +1,23 @@
 -- The priorities of a sound table are a strict order, and `goesBefore` is the paper's "directly or through others". Assumes nothing.
 use mathlib.Core.Path.{_≡_, sym, _∙_, subst}
 use mathlib.Core.Logic.{_↔_, ⊎-elim}
-use mathlib.Core.Bool.{Bool, true, false, _||_, false≢true}
+use mathlib.Core.Bool.{true, false, _||_, false≢true}
 use Prim.Native.Nat.{ℕ, _^_, _≤_, _<_}
-use native.Mathlib.Nat.{le-trans}
-use lib.ListN.{getD, length, List·getD-eq-default}
+use lib.ListN.{getD, List·getD-eq-default}
 use lib.Pow.{pow-pos}
 use Rattle.mask.specs.Search.{some}
 use Rattle.mask.specs.SearchLaws.{some-false, or-false-both, lt-or-ge}
 use Rattle.mask.specs.Mask.{beyond}
 use Rattle.mask.specs.MaskLaws.{not-beyond}
-use Rattle.graph.specs.Graph.{Rows, leads}
+use Rattle.graph.specs.Graph.{Rows}
 use Rattle.graph.specs.GraphLaws.{leads-via, via-leads, via-join, leads-iff}
-use Rattle.rule.specs.Fill.{filled, getD-filled, getD-left, length-filled}
+use Rattle.rule.specs.Fill.{getD-filled, getD-left, length-filled}
 use Rattle.rule.specs.Numbers.{testCellBad, assignCellBad, cellsBad}
 use Rattle.rule.specs.Uses.{testAt, assignAt}
 use Rattle.book.specs.declared.Table.{Table}
 use Rattle.book.specs.Table.{ruleAt, precedesOf, GoesBefore, goesBefore}
 use Rattle.book.specs.Check.{cyclic, Sound}
-use Rattle.book.specs.Sound.{Parts, parts}
+use Rattle.book.specs.Sound.{parts}
 
 module _ (t : Table) where
   -- no rule goes before itself

@@ -1,6 +1,6 @@
 -- The numbers 3 and 5 to 10 of a table in memory, with their places, in the paper's order. Assumes nothing.
 use mathlib.Core.Path.{_≡_}
-use mathlib.Core.Bool.{Bool, not, cond, _||_, _&&_}
+use mathlib.Core.Bool.{Bool, cond, _||_, _&&_}
 use Prim.Native.Nat.{ℕ}
 use lib.Dec.{ltb, leb}
 use Rattle.mask.specs.Search.{some, least}

@@ -1,25 +1,17 @@
 -- What a table has to which no number applies. Assumes nothing.
-use mathlib.Core.Path.{_≡_, refl, sym, ap, _∙_, subst}
-use mathlib.Core.Logic.{⊎-elim}
-use mathlib.Core.Bool.{Bool, true, false, cond, _||_, _&&_, and-true, false≢true}
-use Prim.Native.Nat.{ℕ, _+_, _≤_, _<_, _^_}
-use native.Mathlib.Nat.{lt-irrefl, le-trans}
+use mathlib.Core.Path.{_≡_, refl, sym, ap, _∙_}
+use mathlib.Core.Bool.{Bool, true, false, cond, _||_, _&&_, false≢true}
+use Prim.Native.Nat.{ℕ, _+_, _≤_, _<_}
+use native.Mathlib.Nat.{le-trans}
 use native.Mathlib.Omega.{arith}
 use lib.Dec.{ltb, leb, eqb}
-use lib.ListN.{getD}
-use lib.Pow.{pow-pos}
 use borrow.Author.Tests.{ltb-true, ltb-false, le-leb, eqb-true, not-false}
-use Rattle.mask.specs.Search.{some, least}
-use Rattle.mask.specs.SearchLaws.{or-false-both, Least, least-is, some-false, lt-or-ge, and-true-both}
-use Rattle.mask.specs.MaskLaws.{not-beyond}
-use Rattle.graph.specs.Graph.{Leads, Rows, leads}
-use Rattle.graph.specs.GraphLaws.{leads-iff, leads-below}
-use Rattle.rule.specs.Fill.{filled, getD-filled, getD-left}
+use Rattle.mask.specs.SearchLaws.{or-false-both, least-is}
 use Rattle.rule.specs.Numbers.{notZero, ruleSlotBad}
 use Rattle.rule.specs.NumbersLaws.{Clean, clean}
 use Rattle.book.specs.declared.Table.{Table}
 use Rattle.book.specs.declared.Answer.{Answer}
-use Rattle.book.specs.Table.{ruleAt, precedesOf, goesBefore, GoesBefore}
+use Rattle.book.specs.Table.{ruleAt}
 use Rattle.book.specs.Check.{answer, done, sizesBad, numberAt, firstBad, firstSlot, cyclic, checkOf, Sound}
 
 -- the sizes that 3 does not refuse

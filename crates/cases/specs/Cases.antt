@@ -8,10 +8,8 @@ use Rattle.mask.specs.Search.{some, least}
 use Rattle.mask.specs.Mask.{has, beyond}
 use Rattle.graph.specs.Graph.{leads}
 use Rattle.rule.specs.Numbers.{countsBad, cellsBad, formsBad, twice, lettersBad, sameName, nameTaken, ruleNumber, ruleSlotBad}
-use Rattle.book.specs.declared.Answer.{Answer}
 use Rattle.book.specs.Table.{goesBefore}
 use Rattle.book.specs.Check.{sizesBad, numberAt, firstBad, firstSlot, cyclic, checkOf}
-use Rattle.reader.specs.declared.Reading.{Reading}
 use Rattle.reader.specs.Read.{contentsBad, bodyBad, tableIn, numberIn, firstIn, bodiesOf, readOf}
 use Rattle.cases.specs.Books.{empty, tax, circle, swap, unordered, ordered, night}
 

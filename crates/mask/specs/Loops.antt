@@ -2,18 +2,18 @@
 -- a union of rows.
 -- Assumes nothing.
 use mathlib.Core.Path.{_≡_, refl, sym, ap, ap₂, _∙_, subst}
-use mathlib.Core.Logic.{_⊎_, inl, inr, ⊎-elim}
+use mathlib.Core.Logic.{_⊎_, ⊎-elim}
 use mathlib.Core.Bool.{Bool, true, false, not, _&&_, _||_, and-comm, or-false, or-assoc}
 use mathlib.Core.List.{List}
 use Prim.Native.Nat.{ℕ, zero, suc, _+_, _*_, _^_, _≤_, _<_}
-use native.Mathlib.Nat.{le-antisymm, add-comm, add-zero, one-mul, pow-suc, lt-irrefl, le-refl, le-suc, le-trans, eq-or-lt-of-le, not-suc-le-zero, lt-of-lt-of-le}
+use native.Mathlib.Nat.{le-antisymm, add-comm, one-mul, pow-suc, lt-irrefl, le-suc, le-trans, eq-or-lt-of-le, not-suc-le-zero}
 use native.Mathlib.Numerals.{add-one}
 use native.Mathlib.Omega.{arith}
 use lib.Dec.{eqb, ltb, lit<}
 use lib.ListN.{length, getD, set, length-set, List·getD-eq-default}
 use lib.Seq.{getD-set-same, getD-set-other}
 use borrow.Author.Count.{below-more}
-use borrow.Author.Tests.{lt-ltb, le-ltb, ltb-true, ltb-false, eq-eqb, ne-eqb, eqb-true}
+use borrow.Author.Tests.{lt-ltb, le-ltb, ltb-true, ltb-false, eq-eqb, ne-eqb}
 use Rattle.mask.specs.Search.{some, least, oneIf}
 use Rattle.mask.specs.SearchLaws.{lt-or-ge, some-but, some-same, some-none, some-more, least-by, least-none}
 use Rattle.mask.specs.Mask.{has, maskOf}

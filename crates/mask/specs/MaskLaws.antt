@@ -1,19 +1,19 @@
 -- The laws of sets as masks: what each function of the crate computes, in terms of `has`. Assumes nothing.
 use mathlib.Core.Path.{_≡_, refl, sym, ap, ap₂, _∙_, subst}
 use mathlib.Core.Logic.{⊎-elim}
-use mathlib.Core.Bool.{Bool, true, false, not, cond, _&&_, _||_, and-true, and-false, and-not-self, or-false, false≢true}
-use Prim.Native.Nat.{ℕ, zero, suc, _+_, _-_, _*_, _/_, _%_, _^_, _≤_, _<_}
-use native.Mathlib.Nat.{le-antisymm, div-one, lt-of-le-of-lt, mod-lt, one-mul, le-refl, le-trans, lt-irrefl, eq-or-lt-of-le}
+use mathlib.Core.Bool.{Bool, true, false, not, cond, _&&_, _||_, and-false, false≢true}
+use Prim.Native.Nat.{ℕ, zero, suc, _-_, _*_, _/_, _%_, _^_, _≤_, _<_}
+use native.Mathlib.Nat.{le-antisymm, div-one, lt-of-le-of-lt, mod-lt, one-mul, le-trans, lt-irrefl, eq-or-lt-of-le}
 use native.Mathlib.Omega.{arith}
-use lib.Dec.{eqb, ltb, leb, lit<}
+use lib.Dec.{eqb, leb, lit<}
 use lib.Count.{trailingZeros, under}
-use lib.Pow.{pow-pos, pow-mono, shl-exact}
+use lib.Pow.{pow-pos, shl-exact}
 use lib.Bits.{bitAnd, bitOr, bitXor, or-add-and, and-le-r, and-le-l, or-lt}
-use borrow.Author.Tests.{lt-ltb, le-ltb, le-leb, lt-leb, leb-true, leb-false, eq-eqb, ne-eqb, eqb-true, not-true}
+use borrow.Author.Tests.{le-leb, leb-true, leb-false, eq-eqb, ne-eqb, eqb-true, not-true}
 use Rattle.mask.specs.Search.{some, least}
-use Rattle.mask.specs.SearchLaws.{Found, some-intro, some-elim, some-none, some-false, some-same, and-true-both, Least, least-is, least-same, same-test, lt-or-ge}
+use Rattle.mask.specs.SearchLaws.{Found, some-elim, some-none, some-false, and-true-both, Least, least-is, least-same, same-test, lt-or-ge}
 use Rattle.mask.specs.Mask.{has, meet, within, beyond, lowest}
-use Rattle.mask.specs.Bits.{has-and, has-or, has-xor, unlike, has-zero, has-high, has-suc, has-bit, has-lt, has-ones, below, ext, digit}
+use Rattle.mask.specs.Bits.{has-and, has-or, has-xor, unlike, has-zero, has-high, has-suc, has-bit, has-lt, below, ext, digit}
 
 -- ---- a subset is the smaller number: what makes a set that grows end
 

@@ -1,5 +1,5 @@
 -- Search below n: whether a test holds somewhere, the least number at which it holds, at how many it holds. Assumes nothing.
-use mathlib.Core.Bool.{Bool, true, false, _||_, cond}
+use mathlib.Core.Bool.{Bool, false, _||_, cond}
 use Prim.Native.Nat.{ℕ, zero, suc, _+_}
 
 -- whether f holds somewhere below n

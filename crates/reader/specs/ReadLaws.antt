@@ -1,28 +1,25 @@
 -- The reader's checks and the checks of a table: a rule's number as the reader finds it, and a read that is done gives a sound table.
 -- Assumes nothing.
-use mathlib.Core.Path.{_≡_, refl, sym, ap, ap₂, _∙_, subst}
+use mathlib.Core.Path.{_≡_, refl, sym, ap, ap₂, _∙_}
 use mathlib.Core.List.{List}
 use mathlib.Core.Bool.{Bool, true, false, not, cond, _&&_, false≢true}
 use mathlib.Core.Logic.{⊎-elim}
 use Prim.Native.Nat.{ℕ, _+_, _≤_, _<_}
-use native.Mathlib.Nat.{lt-irrefl, le-refl, le-trans}
+use native.Mathlib.Nat.{le-refl, le-trans}
 use native.Mathlib.Omega.{arith}
 use lib.Dec.{ltb, leb, eqb}
-use lib.ListN.{getD}
 use borrow.Author.Tests.{ltb-true, ltb-false, lt-ltb, le-ltb, lt-leb, le-leb, ne-eqb, eqb-true, not-false}
-use Rattle.mask.specs.Search.{some, least}
-use Rattle.mask.specs.SearchLaws.{Least, least-is, least-none, lt-or-ge}
+use Rattle.mask.specs.Search.{some}
+use Rattle.mask.specs.SearchLaws.{least-is, least-none, lt-or-ge}
 use Rattle.mask.specs.Loops.{Passed, passed-here, passed-all}
 use Rattle.rule.specs.declared.Rule.{Rule}
 use Rattle.rule.specs.Fill.{filled, getD-filled, getD-left}
 use Rattle.rule.specs.Empty.{noRule, blankRule}
 use Rattle.rule.specs.Numbers.{notZero, ruleNumber, ruleSlotBad, formsBad}
 use Rattle.rule.specs.NumbersLaws.{number-same}
-use Rattle.book.specs.declared.Table.{Table}
-use Rattle.book.specs.declared.Answer.{Answer}
-use Rattle.book.specs.Table.{noTable, ruleAt}
-use Rattle.book.specs.Check.{done, sizesBad, numberAt, firstBad, firstSlot, cyclic, checkOf, Sound}
-use Rattle.book.specs.Sound.{Sized, sized}
+use Rattle.book.specs.Table.{ruleAt}
+use Rattle.book.specs.Check.{sizesBad, numberAt, firstBad, firstSlot, cyclic, checkOf, Sound}
+use Rattle.book.specs.Sound.{sized}
 use Rattle.reader.specs.declared.Reading.{Reading}
 use Rattle.reader.specs.Read.{nOf, kOf, startOf, lengthBad, headBad, contentsBad, bodyBad, ruleIn, tableIn, numberIn, firstIn, refusal, taken, bodiesOf, readOf}
 

@@ -1,12 +1,12 @@
 -- One cell as a set, and tests taken out of a choice. Assumes nothing.
-use mathlib.Core.Path.{_≡_, refl, sym, ap, ap₂, _∙_}
-use mathlib.Core.Bool.{Bool, true, false, _&&_, _||_, and-comm, and-assoc, and-or-distrib-left}
+use mathlib.Core.Path.{_≡_, refl, ap₂}
+use mathlib.Core.Bool.{Bool, true, false, _&&_, _||_}
 use Prim.Native.Nat.{ℕ, _≤_, _<_}
 use native.Mathlib.Omega.{arith}
 use lib.Dec.{eqb, ltb}
 use borrow.Author.Tests.{lt-ltb, eqb-true, ltb-true}
 use Rattle.mask.specs.Search.{some}
-use Rattle.mask.specs.SearchLaws.{same-test, and-true-both, some-iff, Found, some-elim, some-intro}
+use Rattle.mask.specs.SearchLaws.{same-test, and-true-both, Found, some-elim}
 
 -- a cell below 32 is below 32
 pub low : (c : ℕ) → c < 32 → (x : ℕ) → eqb x c ≡ (ltb x 32 && eqb x c)

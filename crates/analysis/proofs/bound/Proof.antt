@@ -1,6 +1,5 @@
 -- A table with a number is refused by it; of any other the weights of its masks are added up.
 use mathlib.Core.Path.{_≡_, sym, ap, _∙_, subst}
-use Prim.Native.Nat.{ℕ}
 use Rattle.book.specs.declared.Answer.{Answer}
 use Rattle.book.specs.Check.{checkOf}
 use Rattle.book.specs.Sound.{sound-by}

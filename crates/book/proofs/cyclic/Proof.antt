@@ -1,9 +1,7 @@
 -- Of the rules on a cycle of the closure, one is below n.
-use mathlib.Core.Path.{_≡_, sym, ap, ap₂, _∙_}
+use mathlib.Core.Path.{ap, ap₂, _∙_}
 use mathlib.Core.Bool.{_&&_}
-use Prim.Native.Nat.{ℕ}
 use lib.Dec.{ltb}
-use Rattle.mask.specs.Search.{some}
 use Rattle.mask.specs.SearchLaws.{some-same, some-below}
 use Rattle.mask.specs.Mask.{has, meet}
 use Rattle.book.specs.Table.{goesBefore}

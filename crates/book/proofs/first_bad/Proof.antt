@@ -1,10 +1,9 @@
 -- No rule passed has a number.
 use mathlib.Core.Path.{_≡_, sym, ap, _∙_}
-use mathlib.Core.Bool.{false, not}
-use Prim.Native.Nat.{ℕ, _≤_, _-_}
+use mathlib.Core.Bool.{not}
+use Prim.Native.Nat.{_≤_, _-_}
 use native.Mathlib.Omega.{arith}
 use borrow.Author.Tests.{eq-eqb, ne-eqb}
-use lib.Dec.{eqb}
 use Rattle.mask.specs.Loops.{Passed, passed-none, passed-more, passed-here, passed-all}
 use Rattle.rule.specs.Numbers.{notZero}
 use Rattle.book.specs.Check.{numberAt, firstBad}

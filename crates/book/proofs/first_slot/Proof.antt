@@ -1,14 +1,11 @@
 -- No slot passed is one past n that is not all zero.
-use mathlib.Core.Path.{_≡_, sym, ap, _∙_}
 use mathlib.Core.Bool.{_&&_}
-use Prim.Native.Nat.{ℕ, _≤_, _-_}
-use native.Mathlib.Omega.{arith}
+use Prim.Native.Nat.{_≤_, _-_}
 use lib.Dec.{leb}
 use lib.ListN.{getD}
 use Rattle.rule.specs.Empty.{blankRule}
 use Rattle.mask.specs.Loops.{Passed, passed-none, passed-more, passed-here, passed-all}
 use Rattle.rule.specs.Numbers.{ruleSlotBad}
-use Rattle.book.specs.Table.{ruleAt}
 use Rattle.book.specs.Check.{firstSlot}
 use borrow.Author.Needs.{needs}
 use Rattle.book.proofs.first_slot.Statement.{statement}

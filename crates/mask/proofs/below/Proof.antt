@@ -1,10 +1,8 @@
 -- `1 << n` in a u64 is 2 ^ n, and one less has just the bits below n.
-use mathlib.Core.Path.{_≡_, ap, _∙_}
-use Prim.Native.Nat.{ℕ, _≤_, _^_, _*_, _%_, _-_}
-use native.Mathlib.Nat.{one-mul}
+use mathlib.Core.Path.{ap, _∙_}
+use Prim.Native.Nat.{ℕ, _-_}
 use native.Mathlib.Omega.{arith}
-use lib.Dec.{lit<}
-use lib.Pow.{shl-exact, pow-pos, pow-mono}
+use lib.Pow.{pow-pos, pow-mono}
 use Rattle.mask.specs.Mask.{has}
 use Rattle.mask.specs.Bits.{has-ones}
 use Rattle.mask.specs.MaskLaws.{wide-shl}

@@ -1,6 +1,6 @@
 -- The loop takes the lowest member off `left` and joins its row to a: the rows that m names are always those in a and those that
 -- `left` names. The measure is `left` itself, a smaller number with each member fewer.
-use mathlib.Core.Path.{_≡_, refl, sym, _∙_, subst}
+use mathlib.Core.Path.{_≡_, subst}
 use mathlib.Core.Bool.{true}
 use Prim.Native.Nat.{ℕ, _<_, _^_}
 use native.Mathlib.Omega.{arith}

@@ -1,6 +1,4 @@
 -- The count of zeros below the lowest digit of a number of 32 digits is the least of its members.
-use mathlib.Core.Path.{_≡_, sym, subst}
-use Prim.Native.Nat.{ℕ, _<_, _^_}
 use native.Mathlib.Omega.{arith}
 use Rattle.mask.specs.Mask.{lowest}
 use Rattle.mask.specs.MaskLaws.{zeros-least, lowest-is}

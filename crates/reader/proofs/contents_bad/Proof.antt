@@ -1,5 +1,5 @@
 -- `end` is where body i has to start, and `bad` says whether one of the starts passed is elsewhere.
-use mathlib.Core.Path.{_≡_, refl, sym, ap, ap₂, _∙_}
+use mathlib.Core.Path.{_≡_, refl, ap₂, _∙_}
 use mathlib.Core.Bool.{not}
 use Prim.Native.Nat.{ℕ, _+_, _*_, _≤_, _-_}
 use native.Mathlib.Numerals.{add-one}

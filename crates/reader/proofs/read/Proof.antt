@@ -1,10 +1,10 @@
 -- Each return is the first case of `readOf` whose test held; the tests before it did not.
 use mathlib.Core.Path.{_≡_, sym, ap, _∙_}
-use mathlib.Core.Bool.{true, false}
+use mathlib.Core.Bool.{false}
 use borrow.Author.Tests.{lt-ltb, le-ltb}
 use Rattle.book.specs.Check.{sizesBad}
 use Rattle.book.specs.Sound.{Sized, sized}
-use Rattle.reader.specs.Read.{nOf, kOf, lengthBad, headBad, contentsBad, readOf}
+use Rattle.reader.specs.Read.{nOf, kOf, lengthBad, contentsBad, readOf}
 use Rattle.reader.specs.Inside.{fitting, inside}
 use borrow.Author.Needs.{needs}
 use Rattle.reader.proofs.read.Statement.{statement}

@@ -1,18 +1,15 @@
 -- The rules passed are in the array and have no number; each return is the case of `bodiesOf` that its tests leave.
-use mathlib.Core.Path.{_≡_, refl, sym, ap, _∙_}
-use mathlib.Core.Bool.{true, false, not}
-use Prim.Native.Nat.{ℕ, _<_, _≤_, _-_}
+use mathlib.Core.Path.{_≡_, sym, ap, _∙_}
+use mathlib.Core.Bool.{true, false}
+use Prim.Native.Nat.{_<_, _≤_, _-_}
 use native.Mathlib.Nat.{le-antisymm}
 use native.Mathlib.Omega.{arith}
-use lib.Dec.{eqb, ltb}
-use borrow.Author.Tests.{eq-eqb, ne-eqb, lt-ltb, le-ltb}
 use Rattle.mask.specs.Loops.{Passed, passed-none, passed-more}
 use Rattle.rule.specs.Fill.{filled, filled-more}
 use Rattle.rule.specs.Empty.{noRule}
-use Rattle.rule.specs.Numbers.{notZero, ruleNumber}
+use Rattle.rule.specs.Numbers.{notZero}
 use Rattle.book.specs.Check.{cyclic}
-use Rattle.reader.specs.Read.{nOf, kOf, bodyBad, numberIn, tableIn, taken}
-use Rattle.reader.specs.Inside.{Inside}
+use Rattle.reader.specs.Read.{nOf, bodyBad, numberIn, tableIn, taken}
 use Rattle.reader.specs.ReadLaws.{bodyIn, number-body, number-here, refused-at, none-refused}
 use borrow.Author.Needs.{needs}
 use Rattle.reader.proofs.read_bodies.Statement.{statement}

@@ -1,4 +1,4 @@
-use mathlib.Core.Path.{sym, ap, ap₂, _∙_}
+use mathlib.Core.Path.{ap, ap₂, _∙_}
 use mathlib.Core.Bool.{_||_}
 use lib.Dec.{eqb}
 use Rattle.mask.specs.Bits.{has-zero}

@@ -1,4 +1,4 @@
-use mathlib.Core.Path.{sym, _∙_}
+use mathlib.Core.Path.{_∙_}
 use Rattle.mask.specs.Bits.{has-zero}
 use Rattle.uses.proofs.kept.Statement.{statement}
 use Rattle.uses.proofs.kept.Tie as tie

@@ -1,7 +1,7 @@
 -- Cell A and cell B, each where the operation uses it.
-use mathlib.Core.Path.{sym, ap, ap₂, _∙_}
+use mathlib.Core.Path.{ap, ap₂, _∙_}
 use mathlib.Core.Bool.{_||_, _&&_}
-use lib.Dec.{eqb, ltb, leb}
+use lib.Dec.{eqb, ltb}
 use Rattle.mask.specs.Bits.{has-or}
 use Rattle.rule.specs.Uses.{usesA, usesB}
 use Rattle.uses.proofs.Laws.{out-both}

@@ -1,5 +1,5 @@
 -- The left cell, and the right cell where the kind is 1.
-use mathlib.Core.Path.{sym, ap, ap₂, _∙_}
+use mathlib.Core.Path.{ap, ap₂, _∙_}
 use mathlib.Core.Bool.{_||_, _&&_}
 use lib.Dec.{eqb, ltb}
 use Rattle.mask.specs.Bits.{has-or}

@@ -1,0 +1,27 @@
+-- The reading is what the reader ensures, and the bytes are those of its table.
+use mathlib.Core.Path.{ap, _∙_}
+use borrow.Author.Needs.{needs}
+use Rattle.memory.specs.Memory.{tableBytes}
+use Rattle.reader.specs.declared.Reading.{Reading}
+use Rattle.abi.specs.Code.{codeOf, answerOf}
+use Rattle.abi.proofs.gwaunidor_read.Statement.{statement}
+use Rattle.abi.proofs.gwaunidor_read.Tie as tie
+
+read-requires : tie.Need-read-requires
+read-requires c κs = search needs
+
+store-requires : tie.Need-store-requires
+store-requires c κs = search needs
+
+code-requires : tie.Need-code-requires
+code-requires c κs = search needs
+
+returns : tie.Need-returns
+returns c =
+    let e = c .before .before .before .before .read .ensures in (
+      c .code .ensures ∙ ap (λ (r : Reading). codeOf (answerOf r)) e,
+      c .before .store .ensures ∙ ap (λ (r : Reading). tableBytes (r .table)) e,
+    )
+
+pub gwaunidor-read-spec : {M : Type 1} → statement M
+gwaunidor-read-spec = tie.close (tie.spec read-requires store-requires code-requires returns)

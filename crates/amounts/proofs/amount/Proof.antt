@@ -1,0 +1,26 @@
+-- An array of 32 has no cell past 31.
+use borrow.Author.Needs.{needs}
+use mathlib.Core.Path.{_≡_, sym}
+use native.Mathlib.Omega.{arith}
+use lib.ListN.{length, List·getD-eq-default}
+use lib.IntN.{pos}
+use Rattle.amounts.proofs.amount.Statement.{statement}
+use Rattle.amounts.proofs.amount.Tie as tie
+
+mul-result : tie.Need-mul-result
+mul-result c = search needs
+
+array-copy-out-result : tie.Need-array-copy-out-result
+array-copy-out-result c = search needs
+
+returns : tie.Need-returns
+returns c = search needs
+
+returns-2 : tie.Need-returns-2
+returns-2 c =
+    let cells = c .before .args .t1 in
+    let l : length cells ≡ 32 = search needs in
+    sym (List·getD-eq-default cells (pos 0) (omega arith))
+
+pub amount-spec : {M : Type 1} → statement M
+amount-spec = tie.close (tie.spec mul-result array-copy-out-result returns returns-2)

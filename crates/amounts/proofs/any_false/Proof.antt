@@ -1,0 +1,63 @@
+-- Of the tests passed, one is false exactly when `found`.
+use Prim.Native.Nat.{_≤_, _-_}
+use mathlib.Core.Path.{ap}
+use mathlib.Core.Bool.{not}
+use lib.ListN.{getD}
+use borrow.Author.Needs.{needs}
+use Rattle.mask.specs.Loops.{Sought, sought-none, sought-more, sought-all}
+use Rattle.rule.specs.Empty.{noTest}
+use Rattle.amounts.specs.Amounts.{holds, anyFalse}
+use Rattle.amounts.proofs.any_false.Statement.{statement}
+use Rattle.amounts.proofs.any_false.Tie as tie
+
+abbrev Inv-loop : tie.InvT-loop
+Inv-loop cells tests t found₀ j₀ found j = (j ≤ t) × Sought (λ i. not (holds (getD tests i noTest) cells)) j found
+
+abbrev μ-loop : tie.MeasureT-loop
+μ-loop cells tests t found₀ j₀ found j = t - j
+
+wide-requires : tie.Need-wide-requires Inv-loop μ-loop
+wide-requires c κs = search needs
+
+loop-holds : tie.Need-loop-holds Inv-loop μ-loop
+loop-holds c = (search needs, sought-none)
+
+mul-holds : tie.Need-mul-holds Inv-loop μ-loop
+mul-holds c = search needs
+
+array-copy-out-holds : tie.Need-array-copy-out-holds Inv-loop μ-loop
+array-copy-out-holds c = search needs
+
+holds-requires : tie.Need-holds-requires Inv-loop μ-loop
+holds-requires c κs = search needs
+
+add-j : tie.Need-add-j Inv-loop μ-loop
+add-j c = search needs
+
+loop-less : tie.Need-loop-less Inv-loop μ-loop
+loop-less c = search needs
+
+loop-again : tie.Need-loop-again Inv-loop μ-loop
+loop-again c = (search needs, sought-more (c .before .before .before .loop .inv .1) (ap not (c .holds .ensures)))
+
+returns : tie.Need-returns Inv-loop μ-loop
+unfolding anyFalse
+returns c =
+    let l = c .before .loop in
+    rw (← c .before .before .wide .ensures) (sought-all (l .inv .1) (l .inv .0) (c .loop-test .left))
+
+pub any-false-spec : {M : Type 1} → statement M
+any-false-spec =
+    tie.close
+    (tie.spec
+    Inv-loop
+    μ-loop
+    wide-requires
+    loop-holds
+    mul-holds
+    array-copy-out-holds
+    holds-requires
+    add-j
+    loop-less
+    loop-again
+    returns)

@@ -1,0 +1,79 @@
+-- Of the right sides passed, one is out of range exactly when `found`.
+use Prim.Native.Nat.{_≤_, _-_}
+use native.Mathlib.Omega.{arith}
+use mathlib.Core.Path.{ap, _∙_}
+use lib.ListN.{getD}
+use mir.Facts.{toZ-ofZ}
+use borrow.Author.Needs.{needs, sfits-of}
+use Rattle.mask.specs.Loops.{Sought, sought-none, sought-more, sought-all}
+use Rattle.rule.specs.Empty.{noAssign}
+use Rattle.rule.specs.Numbers.{outOfRange}
+use Rattle.amounts.specs.Amounts.{valueOf, anyOut}
+use Rattle.amounts.proofs.any_out.Statement.{statement}
+use Rattle.amounts.proofs.any_out.Tie as tie
+
+abbrev Inv-loop : tie.InvT-loop
+Inv-loop cells assigns a found₀ j₀ found j = (j ≤ a)
+    × Sought (λ i. outOfRange (valueOf (getD assigns i noAssign) cells)) j found
+
+abbrev μ-loop : tie.MeasureT-loop
+μ-loop cells assigns a found₀ j₀ found j = a - j
+
+wide-requires : tie.Need-wide-requires Inv-loop μ-loop
+wide-requires c κs = search needs
+
+loop-holds : tie.Need-loop-holds Inv-loop μ-loop
+loop-holds c = (search needs, sought-none)
+
+mul-worked : tie.Need-mul-worked Inv-loop μ-loop
+mul-worked c = search needs
+
+array-copy-out-worked : tie.Need-array-copy-out-worked Inv-loop μ-loop
+array-copy-out-worked c = search needs
+
+worked-requires : tie.Need-worked-requires Inv-loop μ-loop
+worked-requires c κs = (
+  c .before .before .before .before .before .pre .0 .bounded (c .before .before .loop .j)
+      (omega (arith, c .before .before .before .wide .ensures)),
+  c .before .before .before .before .before .pre .1,
+)
+
+out-of-range-requires : tie.Need-out-of-range-requires Inv-loop μ-loop
+out-of-range-requires c κs = search needs
+
+add-j : tie.Need-add-j Inv-loop μ-loop
+add-j c = search needs
+
+loop-less : tie.Need-loop-less Inv-loop μ-loop
+loop-less c = search needs
+
+loop-again : tie.Need-loop-again Inv-loop μ-loop
+loop-again c =
+    let w = c .before .worked in (
+      search needs,
+      sought-more (c .before .before .before .before .loop .inv .1)
+          (c .out-of-range .ensures ∙ ap outOfRange (toZ-ofZ (sfits-of (w .ok)) ∙ w .ensures)),
+    )
+
+returns : tie.Need-returns Inv-loop μ-loop
+unfolding anyOut
+returns c =
+    let l = c .before .loop in
+    rw (← c .before .before .wide .ensures) (sought-all (l .inv .1) (l .inv .0) (c .loop-test .left))
+
+pub any-out-spec : {M : Type 1} → statement M
+any-out-spec =
+    tie.close
+    (tie.spec
+    Inv-loop
+    μ-loop
+    wide-requires
+    loop-holds
+    mul-worked
+    array-copy-out-worked
+    worked-requires
+    out-of-range-requires
+    add-j
+    loop-less
+    loop-again
+    returns)

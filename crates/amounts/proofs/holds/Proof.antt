@@ -1,0 +1,72 @@
+-- The right side is a cell or the constant, as the kind says.
+use mir.Syntax.{w64}
+use mir.Val.{SFits}
+use mir.Facts.{toZ-ofZ}
+use borrow.Author.Tests.{ne-eqb}
+use borrow.Author.Needs.{needs, sfits-of}
+use Rattle.amounts.specs.Amounts.{holds}
+use Rattle.amounts.proofs.holds.Statement.{statement}
+use Rattle.amounts.proofs.holds.Tie as tie
+
+wide-requires : tie.Need-wide-requires
+wide-requires c κs = search needs
+
+amount-requires : tie.Need-amount-requires
+amount-requires c κs = search needs
+
+wide-requires-2 : tie.Need-wide-requires-2
+wide-requires-2 c κs = search needs
+
+amount-requires-2 : tie.Need-amount-requires-2
+amount-requires-2 c κs = search needs
+
+compares-requires : tie.Need-compares-requires
+compares-requires c κs = search needs
+
+returns : tie.Need-returns
+unfolding holds
+returns c =
+    let d = c .before .before .before .before .before in
+    let v : SFits w64 (d .amount .result) = sfits-of (d .amount .ok) in
+    let w : SFits w64 (c .before .amount2 .result) = sfits-of (c .before .amount2 .ok) in
+    rw (
+      c .compares .ensures,
+      c .before .before .before .if1 .taken,
+      toZ-ofZ v,
+      d .amount .ensures,
+      d .before .wide .ensures,
+      toZ-ofZ w,
+      c .before .amount2 .ensures,
+      c .before .before .wide2 .ensures,
+    )
+
+compares-requires-2 : tie.Need-compares-requires-2
+compares-requires-2 c κs = search needs
+
+returns-2 : tie.Need-returns-2
+unfolding holds
+returns-2 c =
+    let d = c .before .before .before .before in
+    let v : SFits w64 (d .amount .result) = sfits-of (d .amount .ok) in
+    let k : SFits w64 (d .before .before .args .x .constant) = search needs in
+    rw (
+      c .compares2 .ensures,
+      ne-eqb _ 1 (c .before .before .if1 .left),
+      toZ-ofZ v,
+      d .amount .ensures,
+      d .before .wide .ensures,
+      toZ-ofZ k,
+    )
+
+pub holds-spec : {M : Type 1} → statement M
+holds-spec =
+    tie.close
+    (tie.spec
+    wide-requires
+    amount-requires
+    wide-requires-2
+    amount-requires-2
+    compares-requires
+    returns
+    compares-requires-2
+    returns-2)

@@ -1,0 +1,138 @@
+-- Each arm is the clause of `operated` for its operation, on two cells and a constant in range.
+use mathlib.Core.Path.{_≡_, refl}
+use Prim.Native.Nat.{ℕ, zero, suc}
+use lib.IntN.{ℤ, pos}
+use mir.Syntax.{w64}
+use mir.Val.{toZ, ofZ}
+use mir.Facts.{toZ-ofZ}
+use borrow.Author.Needs.{needs, sfits-of}
+use Rattle.amounts.specs.Amounts.{at, operated, valueOf}
+use Rattle.amounts.proofs.worked.Statement.{statement}
+use Rattle.amounts.proofs.worked.Tie as tie
+
+wide-requires : tie.Need-wide-requires
+wide-requires c κs = search needs
+
+amount-requires : tie.Need-amount-requires
+amount-requires c κs = search needs
+
+wide-requires-2 : tie.Need-wide-requires-2
+wide-requires-2 c κs = search needs
+
+amount-requires-2 : tie.Need-amount-requires-2
+amount-requires-2 c κs = search needs
+
+-- the two cells and the constant, read
+left : (c : tie.After-struct-told) → let a = c .before .before .before .before .before .args in
+    toZ w64 (ofZ w64 (c .before .before .before .amount .result)) ≡ at (a .cells) (a .x .a)
+left c =
+    let d = c .before .before .before in
+    rw (toZ-ofZ (sfits-of (d .amount .ok)), d .amount .ensures, d .before .wide .ensures)
+
+right : (c : tie.After-struct-told) → let a = c .before .before .before .before .before .args in
+    toZ w64 (ofZ w64 (c .before .amount2 .result)) ≡ at (a .cells) (a .x .b)
+right c =
+    rw (toZ-ofZ (sfits-of (c .before .amount2 .ok)), c .before .amount2 .ensures, c .before .before .wide2 .ensures)
+
+constant : (c : tie.After-struct-told) → let a = c .before .before .before .before .before .args in
+    toZ w64 (ofZ w64 (a .x .k)) ≡ a .x .k
+constant c = toZ-ofZ (search needs)
+
+sum-requires : tie.Need-sum-requires
+sum-requires c κs =
+    let p = c .before .before .before .before .before .before .pre in
+    (rw (left (c .before)) (p .1 .each _), rw (constant (c .before)) (p .0 .constant))
+
+sum-requires-2 : tie.Need-sum-requires-2
+sum-requires-2 c κs =
+    let p = c .before .before .before .before .before .before .pre in
+    (rw (left (c .before)) (p .1 .each _), rw (right (c .before)) (p .1 .each _))
+
+less-requires : tie.Need-less-requires
+less-requires c κs =
+    let p = c .before .before .before .before .before .before .pre in
+    (rw (left (c .before)) (p .1 .each _), rw (right (c .before)) (p .1 .each _))
+
+scaled-requires : tie.Need-scaled-requires
+scaled-requires c κs =
+    let p = c .before .before .before .before .before .before .pre in
+    (rw (left (c .before)) (p .1 .each _), p .0 .times, p .0 .over (c .match .keys5))
+
+returns : tie.Need-returns
+unfolding valueOf operated
+returns c = rw (constant (c .before), c .match .keys1)
+
+returns-2 : tie.Need-returns-2
+unfolding valueOf operated
+returns-2 c = rw (
+  toZ-ofZ (sfits-of (c .sum .ok)),
+  c .sum .ensures,
+  left (c .before .before),
+  constant (c .before .before),
+  c .before .match .keys2,
+)
+
+returns-3 : tie.Need-returns-3
+unfolding valueOf operated
+returns-3 c = rw (
+  toZ-ofZ (sfits-of (c .sum2 .ok)),
+  c .sum2 .ensures,
+  left (c .before .before),
+  right (c .before .before),
+  c .before .match .keys3,
+)
+
+returns-4 : tie.Need-returns-4
+unfolding valueOf operated
+returns-4 c = rw (
+  toZ-ofZ (sfits-of (c .less .ok)),
+  c .less .ensures,
+  left (c .before .before),
+  right (c .before .before),
+  c .before .match .keys4,
+)
+
+returns-5 : tie.Need-returns-5
+unfolding valueOf operated
+returns-5 c = rw (
+  toZ-ofZ (sfits-of (c .scaled .ok)),
+  c .scaled .ensures,
+  left (c .before .before),
+  c .before .match .keys5,
+)
+
+unknown : (code : ℕ) (a b k : ℤ) (p q : ℕ) → (code ≡ 0 → ⊥) → (code ≡ 1 → ⊥) → (code ≡ 2 → ⊥) → (code ≡ 3 → ⊥)
+    → (code ≡ 4 → ⊥)
+    → pos 0 ≡ operated code a b k p q
+unfolding operated
+unknown zero a b k p q u v w x y = absurd (u refl)
+unknown (suc zero) a b k p q u v w x y = absurd (v refl)
+unknown (suc (suc zero)) a b k p q u v w x y = absurd (w refl)
+unknown (suc (suc (suc zero))) a b k p q u v w x y = absurd (x refl)
+unknown (suc (suc (suc (suc zero)))) a b k p q u v w x y = absurd (y refl)
+unknown (suc (suc (suc (suc (suc code))))) a b k p q u v w x y = refl
+
+returns-6 : tie.Need-returns-6
+unfolding valueOf
+returns-6 c =
+    let n = c .match .rest in
+    unknown _ _ _ _ _ _ (n .0 .0 .0 .0 .1) (n .0 .0 .0 .1) (n .0 .0 .1) (n .0 .1) (n .1)
+
+pub worked-spec : {M : Type 1} → statement M
+worked-spec =
+    tie.close
+    (tie.spec
+    wide-requires
+    amount-requires
+    wide-requires-2
+    amount-requires-2
+    sum-requires
+    sum-requires-2
+    less-requires
+    scaled-requires
+    returns
+    returns-2
+    returns-3
+    returns-4
+    returns-5
+    returns-6)

@@ -1,0 +1,1 @@
+// Demand 3: for a cleared book every permitted order has one end. It is in specs/.

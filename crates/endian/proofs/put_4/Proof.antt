@@ -1,0 +1,61 @@
+-- four stores side by side are one write.
+use mathlib.Core.List.{[], _∷_}
+use Prim.Native.Nat.{_+_}
+use native.Mathlib.Omega.{arith}
+use lib.ListN.{length-set}
+use borrow.Author.Needs.{needs}
+use Rattle.endian.specs.Put.{put-set, put-store}
+use Rattle.endian.proofs.put_4.Statement.{statement}
+use Rattle.endian.proofs.put_4.Tie as tie
+
+slice-write-out : tie.Need-slice-write-out
+slice-write-out c = search needs
+
+add-out : tie.Need-add-out
+add-out c = search needs
+
+slice-write-out-2 : tie.Need-slice-write-out-2
+slice-write-out-2 c = simp length-set (omega arith)
+
+add-out-2 : tie.Need-add-out-2
+add-out-2 c = search needs
+
+slice-write-out-3 : tie.Need-slice-write-out-3
+slice-write-out-3 c = simp length-set (omega arith)
+
+add-out-3 : tie.Need-add-out-3
+add-out-3 c = search needs
+
+slice-write-out-4 : tie.Need-slice-write-out-4
+slice-write-out-4 c = simp length-set (omega arith)
+
+same-length : tie.Need-same-length
+same-length c = search needs
+
+returns : tie.Need-returns
+returns c =
+    let l = c .args .out .now in
+    let at = c .args .at in
+    let a = c .args .a in
+    let b = c .args .b in
+    let d = c .args .c in
+    rw (
+      put-set l at a (omega arith),
+      put-store l at (a ∷ []) (at + 1) (omega arith) (omega arith) b,
+      put-store l at (a ∷ b ∷ []) (at + 2) (omega arith) (omega arith) d,
+    )
+    (put-store l at (a ∷ b ∷ d ∷ []) (at + 3) (omega arith) (omega arith) (c .args .d))
+
+pub put-4-spec : {M : Type 1} → statement M
+put-4-spec =
+    tie.close
+    (tie.spec
+    slice-write-out
+    add-out
+    slice-write-out-2
+    add-out-2
+    slice-write-out-3
+    add-out-3
+    slice-write-out-4
+    same-length
+    returns)

@@ -1,0 +1,31 @@
+-- what its two callees ensure, one after the other.
+use mathlib.Core.Path.{ap, _∙_}
+use Prim.Native.Nat.{ℕ}
+use mir.Facts.{toZ-ofZ}
+use borrow.Author.Needs.{needs}
+use Rattle.endian.specs.Put.{put}
+use Rattle.endian.specs.Bytes.{unsigned, u64Bytes, i64Bytes}
+use Rattle.endian.proofs.put_i64.Statement.{statement}
+use Rattle.endian.proofs.put_i64.Tie as tie
+
+unsigned-of-requires : tie.Need-unsigned-of-requires
+unsigned-of-requires c κs = search needs
+
+put-u64-requires : tie.Need-put-u64-requires
+put-u64-requires c κs = search needs
+
+same-length : tie.Need-same-length
+same-length c = search needs
+
+returns : tie.Need-returns
+unfolding i64Bytes
+returns c =
+    let d = c .before .before in
+    let h = d .before .before .before .before in
+    let a = h .args in
+    d .put-u64 .ensures
+    ∙ ap (λ (x : ℕ). put (a .out .now) (a .at) (u64Bytes x))
+    (d .before .unsigned-of .ensures ∙ ap unsigned (toZ-ofZ (h .fits .z)))
+
+pub put-i64-spec : {M : Type 1} → statement M
+put-i64-spec = tie.close (tie.spec unsigned-of-requires put-u64-requires same-length returns)

@@ -1,0 +1,42 @@
+-- two stores side by side are one write.
+use mathlib.Core.List.{[], _∷_}
+use Prim.Native.Nat.{_/_, _%_, _+_}
+use native.Mathlib.Omega.{arith}
+use lib.ListN.{length-set}
+use borrow.Author.Needs.{needs}
+use Rattle.endian.specs.Put.{put-set, put-store}
+use Rattle.endian.specs.Bytes.{u16Bytes}
+use Rattle.endian.proofs.put_u16.Statement.{statement}
+use Rattle.endian.proofs.put_u16.Tie as tie
+
+cast-out : tie.Need-cast-out
+cast-out c = search needs
+
+slice-write-out : tie.Need-slice-write-out
+slice-write-out c = search needs
+
+cast-out-2 : tie.Need-cast-out-2
+cast-out-2 c = search needs
+
+add-out : tie.Need-add-out
+add-out c = search needs
+
+slice-write-out-2 : tie.Need-slice-write-out-2
+slice-write-out-2 c = simp length-set (omega arith)
+
+same-length : tie.Need-same-length
+same-length c = search needs
+
+returns : tie.Need-returns
+unfolding u16Bytes
+returns c =
+    let d = c .args .out .now in
+    let at = c .args .at in
+    let x = c .args .x in
+    rw (put-set d at (x % 256) (omega arith))
+    (put-store d at (x % 256 ∷ []) (at + 1) (omega arith) (omega arith) (x / 256 % 256))
+
+pub put-u16-spec : {M : Type 1} → statement M
+put-u16-spec =
+    tie.close
+    (tie.spec cast-out slice-write-out cast-out-2 add-out slice-write-out-2 same-length returns)

@@ -1,0 +1,51 @@
+-- Runs of bytes one after another. Assumes nothing.
+use mathlib.Core.Path.{_≡_, refl, ap₂}
+use mathlib.Core.List.{List, [], _++_}
+use Prim.Native.Nat.{ℕ, zero, suc, _+_, _*_, _≤_, _<_}
+use native.Mathlib.Nat.{mul-zero, mul-suc}
+use native.Mathlib.Numerals.{add-one}
+use native.Mathlib.Omega.{arith}
+use lib.ListN.{length, length-append}
+use borrow.Author.Count.{below-more}
+use Rattle.endian.specs.Stands.{Stands, stands-nil, stands-append, stands-left, stands-right}
+
+-- f 0, f 1, .., f (n - 1), one after another
+unfoldable pub joined : ℕ → (ℕ → List ℕ) → List ℕ
+joined zero f = []
+joined (suc n) f = joined n f ++ f n
+
+-- ---- its laws
+
+pub joined-more : (n : ℕ) (f : ℕ → List ℕ) → joined (n + 1) f ≡ joined n f ++ f n
+unfolding joined
+joined-more n f = rw add-one refl
+
+-- runs of w bytes each
+pub length-joined : (w n : ℕ) (f : ℕ → List ℕ) → ((j : ℕ) → length (f j) ≡ w) → length (joined n f) ≡ w * n
+unfolding joined
+length-joined w zero f e = rw mul-zero refl
+length-joined w (suc n) f e = rw (length-append, length-joined w n f e, e n, mul-suc) refl
+
+pub joined-same : (n : ℕ) (f g : ℕ → List ℕ) → ((j : ℕ) → j < n → f j ≡ g j) → joined n f ≡ joined n g
+unfolding joined
+joined-same zero f g e = refl
+joined-same (suc n) f g e = ap₂ _++_ (joined-same n f g (λ j l. e j (omega arith))) (e n (omega arith))
+
+-- they stand at a place exactly when each stands at its own
+module _ (s : List ℕ) (i : ℕ) (f : ℕ → List ℕ) where
+  pub stands-joined : i ≤ length s → (n : ℕ) → ((j : ℕ) → j < n → Stands s (i + length (joined j f)) (f j))
+      → Stands s i (joined n f)
+  unfolding joined
+  stands-joined l zero h = stands-nil s i l
+  stands-joined l (suc n) h =
+      stands-append s i (joined n f) (f n) (stands-joined l n (λ j g. h j (omega arith))) (h n (omega arith))
+
+  pub stands-each : (n : ℕ) → Stands s i (joined n f) → (j : ℕ) → j < n → Stands s (i + length (joined j f)) (f j)
+  unfolding joined
+  stands-each zero h j l = absurd (omega arith)
+  stands-each (suc n) h j l =
+      below-more (λ (k : ℕ). Stands s (i + length (joined k f)) (f k)) n
+      (stands-each n (stands-left s i (joined n f) (f n) h))
+      (stands-right s i (joined n f) (f n) h)
+      j
+      (rw add-one l)

@@ -1,0 +1,127 @@
+-- Each return is the first case of `stepNumber` whose test held; the tests before it did not.
+use mathlib.Core.Path.{_≡_, ap, _∙_}
+use mathlib.Core.Bool.{Bool, _&&_}
+use Prim.Native.Nat.{_<_}
+use native.Mathlib.Omega.{arith}
+use lib.ListN.{getD}
+use borrow.Author.Tests.{le-leb, lt-leb}
+use borrow.Author.Needs.{needs}
+use Rattle.mask.specs.SearchLaws.{some-same}
+use Rattle.mask.specs.Mask.{has}
+use Rattle.book.specs.Table.{goesBefore}
+use Rattle.machine.specs.State.{waits, held}
+use Rattle.machine.specs.Step.{stepNumber}
+use Rattle.machine.proofs.step_number.Statement.{statement}
+use Rattle.machine.proofs.step_number.Tie as tie
+
+state-bad-requires : tie.Need-state-bad-requires
+state-bad-requires c κs = search needs
+
+returns : tie.Need-returns
+unfolding stepNumber
+returns c = rw (← c .before .state-bad .ensures, c .if1 .taken)
+
+wide-requires : tie.Need-wide-requires
+wide-requires c κs = search needs
+
+returns-2 : tie.Need-returns-2
+unfolding stepNumber
+returns-2 c =
+    let a = c .before .before .before .before .args in
+    rw (
+      ← c .before .before .before .state-bad .ensures,
+      c .before .before .if1 .left,
+      le-leb (a .t .n) (a .r) (omega (arith, c .if2 .taken, c .before .wide .ensures)),
+    )
+
+-- past the second test r is a rule of the table
+below : (c : tie.Else2) → c .before .before .before .before .args .r < c .before .before .before .before .args .t .n
+below c = omega (arith, c .if2 .left, c .before .wide .ensures)
+
+has-requires : tie.Need-has-requires
+has-requires c κs = omega (arith, below c, c .before .before .before .before .pre)
+
+returns-3 : tie.Need-returns-3
+unfolding stepNumber
+returns-3 c =
+    let d = c .before .before in
+    let a = c .before .before .before .before .before .before .args in
+    rw (
+      ← c .before .before .before .before .before .state-bad .ensures,
+      c .before .before .before .before .if1 .left,
+      lt-leb (a .t .n) (a .r) (below d),
+      ← c .before .has .ensures,
+      c .if3 .taken,
+    )
+
+goes-before-requires : tie.Need-goes-before-requires
+goes-before-requires c κs = search needs
+
+gather-requires : tie.Need-gather-requires
+gather-requires c κs = search needs
+
+has-requires-2 : tie.Need-has-requires-2
+has-requires-2 c κs = omega (
+  arith,
+  below (c .before .before .before .before),
+  c .before .before .before .before .before .before .before .before .pre,
+)
+
+-- what is asked of `behind` is whether a waiting rule goes before r
+holder : (c : tie.After-has2)
+    → let a = c .before .before .before .before .before .before .before .before .before .args in c .has2 .result
+    ≡ held (a .t) (a .s) (a .r)
+unfolding held
+holder c =
+    let a = c .before .before .before .before .before .before .before .before .before .args in
+    let rows = c .before .before .goes-before .result in
+    c .has2 .ensures ∙ c .before .gather .ensures (a .r)
+    ∙ some-same 32 (λ x. waits (a .s) x && has (getD rows x 0) (a .r))
+    (λ x. waits (a .s) x && goesBefore (a .t) x (a .r))
+    (λ x l. ap (λ (b : Bool). waits (a .s) x && b) (c .before .before .goes-before .ensures x (a .r)))
+
+returns-4 : tie.Need-returns-4
+unfolding stepNumber
+returns-4 c =
+    let d = c .before .before .before .before .before .before in
+    let a = c .before .before .before .before .before .before .before .before .before .before .args in
+    rw (
+      ← c .before .before .before .before .before .before .before .before .before .state-bad .ensures,
+      c .before .before .before .before .before .before .before .before .if1 .left,
+      lt-leb (a .t .n) (a .r) (below d),
+      ← c .before .before .before .before .before .has .ensures,
+      c .before .before .before .before .if3 .left,
+      ← holder (c .before),
+      c .if4 .taken,
+    )
+
+returns-5 : tie.Need-returns-5
+unfolding stepNumber
+returns-5 c =
+    let d = c .before .before .before .before .before .before in
+    let a = c .before .before .before .before .before .before .before .before .before .before .args in
+    rw (
+      ← c .before .before .before .before .before .before .before .before .before .state-bad .ensures,
+      c .before .before .before .before .before .before .before .before .if1 .left,
+      lt-leb (a .t .n) (a .r) (below d),
+      ← c .before .before .before .before .before .has .ensures,
+      c .before .before .before .before .if3 .left,
+      ← holder (c .before),
+      c .if4 .left,
+    )
+
+pub step-number-spec : {M : Type 1} → statement M
+step-number-spec =
+    tie.close
+    (tie.spec
+    state-bad-requires
+    returns
+    wide-requires
+    returns-2
+    has-requires
+    returns-3
+    goes-before-requires
+    gather-requires
+    has-requires-2
+    returns-4
+    returns-5)

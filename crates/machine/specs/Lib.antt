@@ -1,0 +1,15 @@
+-- What the contracts of `machine` cite: `State`, `Step` and `Run` are the definitions, the others their laws.
+pub mod State
+pub mod Step
+pub mod Run
+pub mod More
+pub mod StateLaws
+pub mod EffectLaws
+pub mod HeldLaws
+pub mod StepLaws
+pub mod PostLaws
+pub mod ViewLaws
+pub mod EligibleLaws
+pub mod RunLaws
+pub mod Cases
+pub mod Night

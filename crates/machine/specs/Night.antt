@@ -1,0 +1,76 @@
+-- Two books computed for the account: the night book, and two rules that write one cell alike. Assumes nothing.
+use mathlib.Core.Path.{_≡_, refl}
+use mathlib.Core.List.{[], _∷_}
+use Prim.Native.Nat.{ℕ}
+use lib.Dec.{lit<}
+use lib.ListN.{replicate}
+use lib.IntN.{pos}
+use Rattle.mask.specs.Search as Search
+use Rattle.mask.specs.Mask as Mask
+use Rattle.graph.specs.Graph as Graph
+use Rattle.rule.specs.Empty.{noRule}
+use Rattle.rule.specs.Numbers as Numbers
+use Rattle.book.specs.declared.Table.{Table}
+use Rattle.book.specs.Table as Table
+use Rattle.book.specs.Check as Check
+use Rattle.amounts.specs.Amounts as Amounts
+use Rattle.machine.specs.declared.State.{State}
+use Rattle.machine.specs.State as State
+use Rattle.machine.specs.State.{Fits}
+use Rattle.machine.specs.Step as Step
+use Rattle.machine.specs.Step.{moved, stepOf}
+use Rattle.machine.specs.Cases.{plain, constant, night, state}
+
+-- the night book after 5 is posted to cell 0: rules 0 and 1 wait
+abbrev pub evening : State
+evening = state (pos 5) (pos 0) (pos 0) 3 0
+
+-- two rules watch cell 0 and each sets cell 1 to 7
+abbrev pub twins : Table
+twins = record { n = 2; k = 2; rules = plain 1 0 1 (constant 1 7 ∷ []) 97 ∷ plain 1 0 1 (constant 1 7 ∷ []) 98 ∷ replicate 30 noRule }
+
+-- after 5 is posted to cell 0; after one of the two; after both
+abbrev pub both : State
+both = state (pos 5) (pos 0) (pos 0) 3 0
+
+abbrev pub other : ℕ → State
+other waiting = state (pos 5) (pos 7) (pos 0) waiting 0
+
+pub record Facts : Type 0 where
+  pub evening-fits : Fits night evening
+  pub both-fits : Fits twins both
+  -- rules 0, 2, 1
+  pub night-0 : stepOf night evening 0 ≡ moved 0 255 (state (pos 5) (pos 6) (pos 0) 6 0)
+  pub night-02 : stepOf night (state (pos 5) (pos 6) (pos 0) 6 0) 2 ≡ moved 0 255 (state (pos 5) (pos 6) (pos 7) 2 0)
+  pub night-021 : stepOf night (state (pos 5) (pos 6) (pos 7) 2 0) 1 ≡ moved 0 255 (state (pos 5) (pos 6) (pos 9) 0 0)
+  -- rules 1, 0, 2
+  pub night-1 : stepOf night evening 1 ≡ moved 0 255 (state (pos 5) (pos 0) (pos 9) 1 0)
+  pub night-10 : stepOf night (state (pos 5) (pos 0) (pos 9) 1 0) 0 ≡ moved 0 255 (state (pos 5) (pos 6) (pos 9) 4 0)
+  pub night-102 : stepOf night (state (pos 5) (pos 6) (pos 9) 4 0) 2 ≡ moved 0 255 (state (pos 5) (pos 6) (pos 7) 0 0)
+  -- the two rules in either order
+  pub twin-0 : stepOf twins both 0 ≡ moved 0 255 (other 2)
+  pub twin-01 : stepOf twins (other 2) 1 ≡ moved 0 255 (other 0)
+  pub twin-1 : stepOf twins both 1 ≡ moved 0 255 (other 1)
+  pub twin-10 : stepOf twins (other 1) 0 ≡ moved 0 255 (other 0)
+
+pub facts : Facts
+unfolding stepOf Step.answered Step.stepNumber Step.effect Step.rested Step.marked Step.renewed Step.wakes State.stateBad State.held
+    Check.checkOf Check.sizesBad Check.numberAt Check.firstBad Check.firstSlot Check.cyclic Table.goesBefore Graph.leads Search.some
+    Search.least Mask.has Mask.beyond Mask.maskOf Numbers.countsBad Numbers.cellsBad Numbers.formsBad Numbers.twice
+    Numbers.lettersBad Numbers.nameTaken Numbers.sameName Numbers.ruleNumber Numbers.ruleSlotBad Amounts.anyFalse Amounts.anyOut
+    Amounts.valueOf Amounts.operated Amounts.storedBy
+facts =
+    record {
+      evening-fits = record { long = refl; waiting = lit< tt; faults = lit< tt; good = refl };
+      both-fits = record { long = refl; waiting = lit< tt; faults = lit< tt; good = refl };
+      night-0 = refl;
+      night-02 = refl;
+      night-021 = refl;
+      night-1 = refl;
+      night-10 = refl;
+      night-102 = refl;
+      twin-0 = refl;
+      twin-01 = refl;
+      twin-1 = refl;
+      twin-10 = refl;
+    }

@@ -1,0 +1,33 @@
+-- How many bytes a table has, one rule after another; writing them all leaves nothing else. Assumes nothing.
+use mathlib.Core.Path.{_≡_}
+use mathlib.Core.List.{List, _++_, append-nil}
+use Prim.Native.Nat.{ℕ, _+_, _*_}
+use native.Mathlib.Omega.{arith}
+use lib.ListN.{length, getD, drop-of-length-le}
+use Rattle.endian.specs.Put.{put}
+use Rattle.endian.specs.Joined.{joined-more, length-joined}
+use Rattle.rule.specs.declared.Rule.{Rule}
+use Rattle.rule.specs.Empty.{blankRule}
+use Rattle.pieces.specs.Pieces.{slotBytes}
+use Rattle.pieces.specs.Lengths.{length-rule}
+use Rattle.book.specs.declared.Table.{Table}
+use Rattle.memory.specs.Memory.{rulesBytes, tableBytes}
+
+module _ (rules : List Rule) (i : ℕ) where
+  pub length-rules : length (rulesBytes rules i) ≡ 284 * i
+  unfolding rulesBytes
+  length-rules =
+      length-joined 284 i (λ j. slotBytes (getD rules j blankRule)) (λ j. length-rule (getD rules j blankRule) 8 8 16)
+
+  pub rules-more : rulesBytes rules (i + 1) ≡ rulesBytes rules i ++ slotBytes (getD rules i blankRule)
+  unfolding rulesBytes
+  rules-more = joined-more i (λ j. slotBytes (getD rules j blankRule))
+
+pub length-table : (t : Table) → length (tableBytes t) ≡ 9092
+unfolding tableBytes
+length-table t = omega (arith, length-rules (t .rules) 32)
+
+-- a write over the whole leaves nothing of what was there
+pub put-whole : (d bs : List ℕ) → length bs ≡ length d → put d 0 bs ≡ bs
+unfolding put
+put-whole d bs e = rw (drop-of-length-le d {i = 0 + length bs} (omega arith)) (append-nil bs)

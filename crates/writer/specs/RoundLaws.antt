@@ -1,0 +1,56 @@
+-- Reading and writing again, and writing and reading again, are what the two calls give. Assumes nothing.
+use mathlib.Core.Path.{_≡_, sym, ap, _∙_}
+use mathlib.Core.List.{List}
+use Prim.Native.Nat.{ℕ}
+use lib.ListN.{length, take}
+use borrow.Author.Tests.{ne-eqb, lt-ltb, le-ltb}
+use Rattle.endian.specs.Put.{put-front}
+use Rattle.endian.specs.Stands.{Bytes}
+use Rattle.book.specs.Sound.{sound-by}
+use Rattle.book.specs.declared.Table.{Table}
+use Rattle.book.specs.Check.{checkOf}
+use Rattle.reader.specs.declared.Reading.{Reading}
+use Rattle.reader.specs.Read.{refusal, taken, readOf}
+use Rattle.reader.specs.ReadLaws.{read-done}
+use Rattle.writer.specs.declared.Written.{Written}
+use Rattle.writer.specs.Book.{bookOf}
+use Rattle.writer.specs.Write.{written, writeOf}
+use Rattle.writer.specs.WriteLaws.{write-refused, write-short, write-done, wrote}
+use Rattle.writer.specs.WriteLaws.{Outcome, refused, short, finished, outcome}
+use Rattle.writer.specs.Held.{Held}
+use Rattle.writer.specs.WriteRead.{same-table}
+use Rattle.writer.specs.RoundTrip.{read-sound, read-book}
+use Rattle.writer.specs.Round.{rewriteOf, rereadOf}
+
+module _ (s d : List ℕ) where
+  pub rewrite-refused : (readOf s .number ≡ 0 → ⊥) → rewriteOf s d ≡ (written (readOf s .number) (readOf s .place) 0, d)
+  unfolding rewriteOf
+  rewrite-refused ne = rw (ne-eqb (readOf s .number) 0 ne)
+
+  pub rewrite-done : Bytes s → readOf s .number ≡ 0 → writeOf (readOf s .table) d ≡ rewriteOf s d
+  unfolding rewriteOf writeOf
+  rewrite-done b e =
+      let t = readOf s .table in
+      let r = read-done s e .reading in
+      let f : readOf s ≡ taken t = r ∙ ap (λ (x : Reading). taken (x .table)) (sym r) in
+      rw (e, read-sound s b t f, read-book s b t f)
+
+module _ (t : Table) (d : List ℕ) where
+  -- where the table or the buffer is refused
+  pub reread-refused : (writeOf t d .0 .number ≡ 0 → ⊥)
+      → rereadOf t d ≡ (refusal (writeOf t d .0 .number) (writeOf t d .0 .place), writeOf t d .1)
+  unfolding rereadOf
+  reread-refused ne = pick (outcome t d)
+    where
+      pick : Outcome t d → rereadOf t d ≡ (refusal (writeOf t d .0 .number) (writeOf t d .0 .place), writeOf t d .1)
+      pick (refused h) = rw (write-refused t d h, ne-eqb (checkOf t .number) 0 h)
+      pick (short h l) = rw (write-short t d h l, h, lt-ltb (length d) (length (bookOf t)) l)
+      pick (finished h l) = absurd (ne (ap (λ (w : Written × List ℕ). w .0 .number) (write-done t d h l)))
+
+  pub reread-done : Held t → writeOf t d .0 .number ≡ 0
+      → rereadOf t d ≡ (readOf (take (writeOf t d .0 .length) (writeOf t d .1)), writeOf t d .1)
+  unfolding rereadOf
+  reread-done held e =
+      let w = wrote t d e in
+      let r = ap readOf (put-front d (bookOf t)) ∙ same-table t (sound-by t (w .checked)) held in
+      rw (w .is, w .checked, le-ltb (length d) (length (bookOf t)) (w .room), r)

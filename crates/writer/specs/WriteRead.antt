@@ -1,0 +1,197 @@
+-- The book of a sound table is read, and gives the same table. Assumes nothing.
+use mathlib.Core.Path.{_≡_, refl, sym, ap, ap₂, _∙_, subst}
+use mathlib.Core.List.{List, [], _∷_, _++_}
+use mathlib.Core.Bool.{Bool, false, not, _||_}
+use Prim.Native.Nat.{ℕ, zero, suc, _+_, _*_, _≤_, _<_}
+use native.Mathlib.Nat.{zero-add, le-refl}
+use native.Mathlib.Omega.{arith}
+use lib.Dec.{ltb, eqb}
+use lib.ListN.{length, length-append}
+use borrow.Author.Tests.{le-ltb, eq-eqb}
+use Rattle.mask.specs.SearchLaws.{some-none}
+use Rattle.mask.specs.Loops.{Passed}
+use Rattle.endian.specs.Little.{byteAt}
+use Rattle.endian.specs.Bytes.{u16Bytes, length-u16}
+use Rattle.endian.specs.Stands.{Stands, stands-self, stands-left, stands-right, stands-after}
+use Rattle.endian.specs.BytesLaws.{u16-read}
+use Rattle.endian.specs.Joined.{stands-each}
+use Rattle.rule.specs.declared.Rule.{Rule}
+use Rattle.rule.specs.Empty.{noRule, blankRule}
+use Rattle.rule.specs.Fill.{filled}
+use Rattle.rule.specs.Numbers.{notZero}
+use Rattle.rule.specs.NumbersLaws.{unclean}
+use Rattle.parts.specs.Parts.{ruleOf}
+use Rattle.pieces.specs.Pieces.{bodyBytes}
+use Rattle.pieces.specs.Rows.{slots-are}
+use Rattle.pieces.specs.ReadBack.{rule-read}
+use Rattle.book.specs.declared.Table.{Table}
+use Rattle.book.specs.Table.{ruleAt}
+use Rattle.book.specs.Check.{sizesBad, numberAt, cyclic, Sound}
+use Rattle.book.specs.Sound.{Parts, parts}
+use Rattle.reader.specs.Read.{nOf, kOf, startOf, lengthOf, endOf, ruleIn, tableIn, numberIn, taken, readOf}
+use Rattle.reader.specs.Read.{lengthBad, headBad, contentsBad}
+use Rattle.reader.specs.Inside.{Counts}
+use Rattle.reader.specs.ReadLaws.{number-table, none-refused}
+use Rattle.writer.specs.Held.{Held}
+use Rattle.writer.specs.Book.{bodySize, startAt, entryBytes, contentsBytes, bodiesBytes, bookOf}
+use Rattle.writer.specs.BookLaws.{Ready, ready, size-most, start-most, largest}
+use Rattle.writer.specs.BookLaws.{length-contents, length-bodies, length-book}
+use Rattle.writer.specs.More.{sizes-good, counts-good}
+use Rattle.writer.specs.Slots.{past, empty-rule}
+
+module _ (t : Table) (sound : Sound t) (held : Held t) where
+  abbrev s : List ℕ
+  s = bookOf t
+
+  abbrev n : ℕ
+  n = t .n
+
+  abbrev rules : List Rule
+  rules = t .rules
+
+  good : Parts t
+  good = parts t sound
+
+  rd : Ready n rules
+  rd = ready t sound
+
+  -- ---- what stands where
+
+  whole : Stands s 0 ((1 ∷ n ∷ t .k ∷ 0 ∷ []) ++ contentsBytes n rules n ++ bodiesBytes rules n)
+  unfolding bookOf
+  whole = stands-self s
+
+  front : Stands s 0 ((1 ∷ n ∷ t .k ∷ 0 ∷ []) ++ contentsBytes n rules n)
+  front = stands-left s 0 ((1 ∷ n ∷ t .k ∷ 0 ∷ []) ++ contentsBytes n rules n) (bodiesBytes rules n) whole
+
+  head : Stands s 0 (1 ∷ n ∷ t .k ∷ 0 ∷ [])
+  head = stands-left s 0 (1 ∷ n ∷ t .k ∷ 0 ∷ []) (contentsBytes n rules n) front
+
+  entry : (i : ℕ) → i < n → Stands s (4 + 4 * i) (entryBytes n rules i)
+  unfolding contentsBytes
+  entry i l =
+      subst (λ (k : ℕ). Stands s (4 + k) (entryBytes n rules i)) (length-contents n rules i)
+      (stands-each s 4 (entryBytes n rules) n
+      (stands-right s 0 (1 ∷ n ∷ t .k ∷ 0 ∷ []) (contentsBytes n rules n) front) i l)
+
+  body : (i : ℕ) → i < n → Stands s (startAt n rules i) (bodyBytes (ruleAt t i))
+  unfolding bodiesBytes
+  body i l =
+      let h : List ℕ = (1 ∷ n ∷ t .k ∷ 0 ∷ []) ++ contentsBytes n rules n in
+      let e : length h ≡ 4 + 4 * n =
+      length-append (1 ∷ n ∷ t .k ∷ 0 ∷ []) (contentsBytes n rules n) ∙ rw (length-contents n rules n) in
+      let all = rw zero-add at (stands-after s 0 h (bodiesBytes rules n) (4 + 4 * n) e whole) in
+      subst (λ (k : ℕ). Stands s k (bodyBytes (ruleAt t i))) (length-bodies n rules i)
+      (stands-each s (4 + 4 * n) (λ j. bodyBytes (ruleAt t j)) n all i l)
+
+  -- ---- the head and the contents as they are read
+
+  n-is : nOf s ≡ n
+  n-is = head .same 1 (omega arith)
+
+  k-is : kOf s ≡ t .k
+  k-is = head .same 2 (omega arith)
+
+  start-is : (i : ℕ) → i < n → startOf s i ≡ startAt n rules i
+  unfolding entryBytes
+  start-is i l =
+      let f = rd .few in
+      u16-read s (4 + 4 * i) (startAt n rules i) (omega (arith, start-most n rules rd i (omega arith)))
+      (stands-left s (4 + 4 * i) (u16Bytes (startAt n rules i)) (u16Bytes (bodySize (ruleAt t i))) (entry i l))
+
+  length-is : (i : ℕ) → i < n → lengthOf s i ≡ bodySize (ruleAt t i)
+  unfolding entryBytes
+  length-is i l =
+      let p : 4 + 4 * i + 2 ≡ 6 + 4 * i = omega arith in
+      u16-read s (6 + 4 * i) (bodySize (ruleAt t i)) (omega (arith, size-most n rules rd i l))
+      (subst (λ (k : ℕ). Stands s k (u16Bytes (bodySize (ruleAt t i)))) p
+      (stands-after s (4 + 4 * i) (u16Bytes (startAt n rules i)) (u16Bytes (bodySize (ruleAt t i))) 2
+      (length-u16 (startAt n rules i)) (entry i l)))
+
+  end-is : (i : ℕ) → i ≤ n → endOf s n i ≡ startAt n rules i
+  unfolding startAt
+  end-is zero l = refl
+  end-is (suc i) l = omega (arith, end-is i (omega arith), length-is i l)
+
+  -- ---- the bodies as they are read
+
+  rule-is : (i : ℕ) → i < n → ruleOf s (startAt n rules i) (ruleAt t i .t) (ruleAt t i .a) (ruleAt t i .m) ≡ ruleAt t i
+  rule-is i l =
+      let r = ruleAt t i in
+      let c = rd .counts i l in
+      rule-read s (startAt n rules i) r (r .t) (r .a) (r .m) (c .tests) (c .assigns) (c .letters)
+      (held .rule i (omega (arith, rd .few))) (past r (good .rules i l .forms)) (body i l)
+
+  body-is : (i : ℕ) → i < n → ruleIn s (startOf s i) ≡ ruleAt t i
+  body-is i l =
+      let r = ruleAt t i in
+      let e = rule-is i l in
+      let at = startAt n rules i in
+      let et : byteAt s (at + 8) ≡ r .t = ap (λ (x : Rule). x .t) e in
+      let ea : byteAt s (at + 9) ≡ r .a = ap (λ (x : Rule). x .a) e in
+      let em : byteAt s (at + 10) ≡ r .m = ap (λ (x : Rule). x .m) e in
+      ap (ruleIn s) (start-is i l) ∙ ((λ k. ruleOf s at (et k) (ea k) (em k)) ∙ e)
+
+  table-is : tableIn s ≡ t
+  unfolding tableIn
+  table-is =
+      let rs = slots-are 32 noRule blankRule (λ i. ruleIn s (startOf s i)) n rules (rd .few) (held .rules) body-is
+      (λ i h l. empty-rule (ruleAt t i) (held .rule i l) (good .slots i h l)) in
+      λ k. record { n = n-is k; k = k-is k; rules = (ap (filled 32 noRule (λ i. ruleIn s (startOf s i))) n-is ∙ rs) k }
+
+  -- ---- no number applies
+
+  length-good : lengthBad s ≡ false
+  length-good =
+      ap₂ _||_ (le-ltb (length s) 4 (omega (arith, head .inside))) (le-ltb 9220 (length s) (largest t sound))
+
+  head-good : headBad s ≡ false
+  head-good =
+      let e0 : byteAt s 0 ≡ 1 = head .same 0 (omega arith) in
+      let e3 : byteAt s 3 ≡ 0 = head .same 3 (omega arith) in
+      ap₂ (λ (a b : Bool). not a || not b) (eq-eqb (byteAt s 0) 1 e0) (eq-eqb (byteAt s 3) 0 e3)
+
+  contents-good : contentsBad s n ≡ false
+  unfolding contentsBad
+  contents-good =
+      let e : endOf s n n ≡ length s = end-is n (le-refl n) ∙ sym (length-book t) in
+      let a : ltb (length s) (4 + 4 * n) ≡ false =
+      le-ltb (length s) (4 + 4 * n) (omega (arith, length-book t, length-bodies n rules n)) in
+      let b = some-none n (λ i. not (eqb (startOf s i) (endOf s n i)))
+      (λ i l. ap not (eq-eqb (startOf s i) (endOf s n i) (start-is i l ∙ sym (end-is i (omega arith))))) in
+      let c : not (eqb (endOf s n n) (length s)) ≡ false = ap not (eq-eqb (endOf s n n) (length s) e) in
+      λ k. a k || (b k || c k)
+
+  body-counts : (i : ℕ) → i < n → Counts s i
+  body-counts i l =
+      let e = body-is i l in
+      let c = rd .counts i l in
+      let et : byteAt s (startOf s i + 8) ≡ ruleAt t i .t = ap (λ (x : Rule). x .t) e in
+      let ea : byteAt s (startOf s i + 9) ≡ ruleAt t i .a = ap (λ (x : Rule). x .a) e in
+      let em : byteAt s (startOf s i + 10) ≡ ruleAt t i .m = ap (λ (x : Rule). x .m) e in
+      let z = length-is i l in
+      record {
+        head = omega arith;
+        tests = omega (arith, c .tests);
+        assigns = omega (arith, c .assigns);
+        named = omega (arith, c .named);
+        letters = omega (arith, c .letters);
+        zero = ap (λ (x : Rule). x .zero) e ∙ c .fourth;
+        size = omega arith;
+      }
+
+  number-good : (i : ℕ) → i < n → numberIn s i ≡ 0
+  unfolding numberAt
+  number-good i l =
+      number-table s i (counts-good s i (body-counts i l))
+      ∙ (ap (λ (u : Table). numberAt u i) table-is ∙ unclean n (t .k) rules i (ruleAt t i) (good .rules i l))
+
+  pub same-table : readOf s ≡ taken t
+  unfolding readOf
+  same-table =
+      let sizes : sizesBad (nOf s) (kOf s) ≡ false = ap₂ sizesBad n-is k-is ∙ sizes-good n (t .k) (good .sizes) in
+      let cont : contentsBad s (nOf s) ≡ false = ap (contentsBad s) n-is ∙ contents-good in
+      let acyclic : cyclic (tableIn s) ≡ false = ap cyclic table-is ∙ good .acyclic in
+      let none : Passed (λ x. notZero (numberIn s x)) n = record { none = λ x l. ap notZero (number-good x l) } in
+      let last = none-refused s n none (omega (arith, n-is)) in
+      rw (length-good, head-good, sizes, cont, last, acyclic) (ap taken table-is)

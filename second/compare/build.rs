@@ -1,0 +1,24 @@
+//! Links the proved library, libabi.a, and tells where `answers` is: in the
+//! folder that GWAUNIDOR_LIB_DIR names, else in target/border at the
+//! repository's root, where the script `archive` leaves both.
+
+use std::env;
+use std::path::PathBuf;
+
+fn main() {
+    println!("cargo:rerun-if-env-changed=GWAUNIDOR_LIB_DIR");
+    let package = env::var("CARGO_MANIFEST_DIR").expect("cargo names the package's folder");
+    let folder = match env::var_os("GWAUNIDOR_LIB_DIR") {
+        Some(named) => PathBuf::from(named),
+        None => PathBuf::from(package).join("../../target/border"),
+    };
+    let archive = folder.join("libabi.a");
+    println!("cargo:rerun-if-changed={}", archive.display());
+    if !archive.is_file() {
+        panic!("no {}: run second/compare/archive first", archive.display());
+    }
+    println!("cargo:rustc-link-search=native={}", folder.display());
+    println!("cargo:rustc-link-lib=static=abi");
+    let answers = folder.join("answers");
+    println!("cargo:rustc-env=GWAUNIDOR_ANSWERS={}", answers.display());
+}
