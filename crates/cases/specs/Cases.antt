@@ -1,50 +1,49 @@
--- The treasurer's cases, each under the paper's sentence, and the one claim. Assumes nothing.
+-- The treasurer's cases of reading, steps and postings, each under the paper's sentence, and the one claim. Assumes nothing.
 use mathlib.Core.Path.{_≡_, refl}
-use mathlib.Core.Bool.{Bool, true, _&&_}
+use mathlib.Core.Bool.{true}
 use mathlib.Core.List.{List, [], _∷_}
-use Prim.Native.Nat.{ℕ}
-use lib.Dec.{eqb}
-use Rattle.mask.specs.Search.{some, least}
-use Rattle.mask.specs.Mask.{has, beyond}
-use Rattle.graph.specs.Graph.{leads}
-use Rattle.rule.specs.Numbers.{countsBad, cellsBad, formsBad, twice, lettersBad, sameName, nameTaken, ruleNumber, ruleSlotBad}
-use Rattle.book.specs.Table.{goesBefore}
-use Rattle.book.specs.Check.{sizesBad, numberAt, firstBad, firstSlot, cyclic, checkOf}
-use Rattle.reader.specs.Read.{contentsBad, bodyBad, tableIn, numberIn, firstIn, bodiesOf, readOf}
+use lib.IntN.{pos, negsuc}
+use Rattle.mask.specs.Search as Search
+use Rattle.mask.specs.Mask as Mask
+use Rattle.graph.specs.Graph as Graph
+use Rattle.rule.specs.Numbers as Numbers
+use Rattle.book.specs.Table as Table
+use Rattle.book.specs.Check as Check
+use Rattle.reader.specs.Read as Read
+use Rattle.amounts.specs.Amounts as Amounts
+use Rattle.machine.specs.State as State
+use Rattle.machine.specs.Step as Step
 use Rattle.cases.specs.Books.{empty, tax, circle, swap, unordered, ordered, night}
-
-pub data Case : Type 0 where
-  -- a book, the number and the place that reading it gives, and the numbers of rules and cells of its table
-  reads : List ℕ → ℕ → ℕ → ℕ → ℕ → Case
-  -- a book that is read, and the table of which passes the checks
-  checks : List ℕ → Case
-
-abbrev pub holds : Case → Bool
-holds (reads s number place n k) =
-    let r = readOf s in
-    eqb (r .number) number && eqb (r .place) place && eqb (r .table .n) n && eqb (r .table .k) k
-holds (checks s) = eqb (checkOf (readOf s .table) .number) 0 && eqb (readOf s .number) 0
-
-abbrev pub every : List Case → Bool
-every [] = true
-every (c ∷ cs) = holds c && every cs
+use Rattle.cases.specs.Case.{Case, reads, scales, steps, posts, state, every}
 
 abbrev pub table : List Case
 table =
-    -- "bytes 01 00 01 00: no rules .. The first three alone: 1."
+    -- "bytes 01 00 01 00: no rules; .. The first three alone: 1."
     reads empty 0 255 0 1
     ∷ reads (1 ∷ 0 ∷ 1 ∷ []) 1 255 0 0
     -- "tax book, 43 bytes"
     ∷ reads tax 0 255 1 2
+    -- "7 x 1 / 2 gives 3; -7 x 1 / 2 gives -3."
+    ∷ scales (pos 7) 1 2 (pos 3)
+    ∷ scales (negsuc 6) 1 2 (negsuc 2)
+    -- "one rule sets cell 0 to cell 1 and cell 1 to cell 0 (each + 0): 3, 4 become 4, 3."
+    ∷ steps swap (state (pos 3 ∷ pos 4 ∷ []) 1 0) (0 ∷ []) (state (pos 4 ∷ pos 3 ∷ []) 0 0)
     -- the other books that a case speaks of
-    ∷ checks circle
-    ∷ checks swap
-    ∷ checks unordered
-    ∷ checks ordered
-    ∷ checks night
+    ∷ reads circle 0 255 1 1
+    ∷ reads unordered 0 255 2 3
+    ∷ reads ordered 0 255 2 3
+    ∷ reads night 0 255 3 3
+    -- "From zeros, post 5 to cell 0: starting with 0, cell 2 ends 9; starting with 1, it ends 7. Three steps each."
+    ∷ posts night 0 (pos 5) (state (pos 5 ∷ []) 3 0)
+    ∷ steps night (state (pos 5 ∷ []) 3 0) (0 ∷ 2 ∷ 1 ∷ []) (state (pos 5 ∷ pos 6 ∷ pos 9 ∷ []) 0 0)
+    ∷ steps night (state (pos 5 ∷ []) 3 0) (1 ∷ 0 ∷ 2 ∷ []) (state (pos 5 ∷ pos 6 ∷ pos 7 ∷ []) 0 0)
     ∷ []
 
 pub all-hold : every table ≡ true
-unfolding some least has beyond leads countsBad cellsBad formsBad twice lettersBad sameName nameTaken ruleNumber ruleSlotBad goesBefore
-    sizesBad numberAt firstBad firstSlot cyclic checkOf contentsBad bodyBad tableIn numberIn firstIn bodiesOf readOf
+unfolding Search.some Search.least Mask.has Mask.beyond Mask.maskOf Graph.leads Numbers.countsBad Numbers.cellsBad
+    Numbers.formsBad Numbers.twice Numbers.lettersBad Numbers.sameName Numbers.nameTaken Numbers.ruleNumber Numbers.ruleSlotBad
+    Table.goesBefore Check.sizesBad Check.numberAt Check.firstBad Check.firstSlot Check.cyclic Check.checkOf
+    Read.contentsBad Read.bodyBad Read.tableIn Read.numberIn Read.firstIn Read.bodiesOf Read.readOf Amounts.compares Amounts.holds
+    Amounts.anyFalse Amounts.scaled Amounts.operated Amounts.valueOf Amounts.anyOut Amounts.storedBy State.stateBad State.held
+    Step.rested Step.marked Step.wakes Step.renewed Step.effect Step.answered Step.stepNumber Step.stepOf Step.postNumber Step.postOf
 all-hold = refl
