@@ -1,13 +1,16 @@
 -- What is promised determines the answers: any two results that meet it are equal. Assumes nothing.
-use mathlib.Core.Path.{_≡_, sym, _∙_}
+use mathlib.Core.Path.{_≡_, sym, ap, _∙_, subst}
 use Prim.Native.Nat.{ℕ, _^_, _<_}
 use native.Mathlib.Decide.{ℕ-discrete}
 use Rattle.book.specs.declared.Table.{Table}
 use Rattle.book.specs.Table.{ruleAt}
-use Rattle.book.specs.Check.{checkOf}
+use Rattle.book.specs.declared.Answer.{Answer}
+use Rattle.book.specs.Check.{checkOf, Sound}
 use Rattle.book.specs.Sound.{sound-by}
 use Rattle.judging.specs.declared.Report.{Report}
 use Rattle.judging.specs.declared.Bound.{Bound}
+use Rattle.pairs.specs.declared.Masks.{Masks}
+use Rattle.judging.specs.Report.{Reported}
 use Rattle.judging.specs.ReportLaws.{unique}
 use Rattle.judging.specs.BoundLaws.{bound-unique}
 use Rattle.analysis.specs.Masks.{masksOf}
@@ -29,3 +32,10 @@ bound-of-unique t h set a b p q = go (ℕ-discrete (checkOf t .number) 0)
     go : Dec (checkOf t .number ≡ 0) → a ≡ b
     go (yes e) = bound-unique (masksOf t) (masks-orderly t (sound-by t e) h) set a b (p .done e) (q .done e)
     go (no ne) = p .refused ne ∙ sym (q .refused ne)
+
+-- the report depends on nothing but the four masks of each rule
+pub masks-alone : (t u : Table) → Sound t → Sound u → masksOf t ≡ masksOf u → (r s : Report) → ReportSays t r → ReportSays u s → r ≡ s
+masks-alone t u a b e r s p q =
+    unique (masksOf u) r s
+    (subst (λ (m : Masks). Reported m r) e (p .done (ap (λ (x : Answer). x .number) (a .checked))))
+    (q .done (ap (λ (x : Answer). x .number) (b .checked)))
