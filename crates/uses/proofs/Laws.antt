@@ -1,6 +1,6 @@
 -- One cell as a set, and tests taken out of a choice. Assumes nothing.
 use mathlib.Core.Path.{_≡_, refl, ap₂}
-use mathlib.Core.Bool.{Bool, true, false, _&&_, _||_}
+use mathlib.Core.Bool.{Bool, true, false, _&&_, _||_, false≢true}
 use Prim.Native.Nat.{ℕ, _≤_, _<_}
 use native.Mathlib.Omega.{arith}
 use lib.Dec.{eqb, ltb}
@@ -18,13 +18,10 @@ low c l x =
 -- and one that is not is no x below 32
 pub high : (c : ℕ) → 32 ≤ c → (x : ℕ) → false ≡ (ltb x 32 && eqb x c)
 high c l x =
-    same-test false (ltb x 32 && eqb x c) (λ e. absurd (never e))
+    same-test false (ltb x 32 && eqb x c) (λ e. absurd (false≢true e))
     (λ e.
     let p = and-true-both (ltb x 32) (eqb x c) e in
     absurd (omega (arith, ltb-true x 32 (p .0), eqb-true x c (p .1))))
-  where
-    never : false ≡ true → ⊥
-    never e = let z : _≡_ {A = ℕ} 0 1 = cc in omega arith
 
 -- a test of both parts of a choice, taken out
 pub out : (l a b c : Bool) → ((l && a) || (b && (l && c))) ≡ (l && (a || (b && c)))
@@ -42,7 +39,4 @@ out-both false false b false d = refl
 -- and out of a search
 pub out-some : (l : Bool) (n : ℕ) (f : ℕ → Bool) → some n (λ j. l && f j) ≡ (l && some n f)
 out-some true n f = refl
-out-some false n f = same-test (some n (λ j. false)) false (λ e. let w : Found n (λ j. false) = some-elim n (λ j. false) e in w .is) (λ e. absurd (never e))
-  where
-    never : false ≡ true → ⊥
-    never e = let z : _≡_ {A = ℕ} 0 1 = cc in omega arith
+out-some false n f = same-test (some n (λ j. false)) false (λ e. let w : Found n (λ j. false) = some-elim n (λ j. false) e in w .is) (λ e. absurd (false≢true e))
