@@ -4,8 +4,16 @@ ghost use Prim.Native.Nat.{_<_};
 ghost use Rattle.book.specs.Check.{checkOf};
 ghost use Rattle.memory.specs.Memory.{tableFrom, tableBytes};
 ghost use Rattle.reader.specs.Read.{readOf};
+ghost use Rattle.machine.specs.Step.{freshOf, stepOf, postOf};
+ghost use Rattle.machine.specs.Run.{runOf};
+ghost use Rattle.states.specs.States.{cellsFrom, stateFrom};
+ghost use Rattle.writer.specs.Write.{writeOf};
 ghost use Rattle.abi.specs.Code.{codeOf, answerOf};
+ghost use Rattle.abi.specs.Analysed.{ReportCrosses, BoundCrosses};
+ghost use Rattle.abi.specs.Moves.{MovedTo, RanTo};
+ghost use Rattle.abi.specs.Writes.{WroteTo, SizedTo};
 use book::Answer;
+use machine::Moved;
 
 fn wide(x: u8) -> u32
     ensures { λ r. ⌜ (r ≡ x) × (r < 256) ⌝ }
@@ -44,4 +52,122 @@ pub extern "C" fn gwaunidor_check(table: &[u8; 9092]) -> u32
     ensures { λ r. ⌜ r ≡ codeOf (checkOf (tableFrom (now (table .entry)))) ⌝ }
 {
     code(book::check(memory::load(table)))
+}
+
+// The report on a table.
+#[no_mangle]
+pub extern "C" fn gwaunidor_report(table: &[u8; 9092], out: &mut [u8; 512]) -> u32
+    ensures { λ r. ⌜ ReportCrosses (tableFrom (now (table .entry))) (now (out .exit)) r ⌝ }
+{
+    let judged = analysis::report(memory::load(table));
+    layouts::store_report(judged, out);
+    code(Answer {
+        number: judged.number,
+        place: judged.place,
+    })
+}
+
+// The step bound of a set of rules.
+#[no_mangle]
+pub extern "C" fn gwaunidor_bound(table: &[u8; 9092], set: u32, bound: &mut u32) -> u32
+    ensures { λ r. ⌜ BoundCrosses (tableFrom (now (table .entry))) set (now (bound .exit)) r ⌝ }
+{
+    let b = analysis::bound(memory::load(table), set);
+    *bound = b.bound;
+    code(Answer {
+        number: b.number,
+        place: b.place,
+    })
+}
+
+// The state that came back, and what is returned with it.
+fn give(m: Moved, state: &mut [u8; 264]) -> u32
+    ensures { λ r. ⌜ MovedTo m (now (state .exit)) r ⌝ }
+{
+    let s = m.state;
+    states::store_state(s, state);
+    code(Answer {
+        number: m.number,
+        place: m.place,
+    })
+}
+
+// A fresh state from 32 amounts.
+#[no_mangle]
+pub extern "C" fn gwaunidor_fresh(
+    table: &[u8; 9092],
+    amounts: &[u8; 256],
+    state: &mut [u8; 264],
+) -> u32
+    ensures { λ r. ⌜ MovedTo (freshOf (tableFrom (now (table .entry))) (cellsFrom (now (amounts .entry)))) (now (state .exit)) r ⌝ }
+{
+    let cells = states::load_cells(amounts);
+    give(machine::fresh(memory::load(table), cells), state)
+}
+
+// One step on a rule.
+#[no_mangle]
+pub extern "C" fn gwaunidor_step(table: &[u8; 9092], state: &mut [u8; 264], rule: u32) -> u32
+    ensures { λ r. ⌜ MovedTo (stepOf (tableFrom (now (table .entry))) (stateFrom (now (state .entry))) rule) (now (state .exit)) r ⌝ }
+{
+    let s = states::load_state(state);
+    give(machine::step(memory::load(table), s, rule), state)
+}
+
+// A value posted to a cell.
+#[no_mangle]
+pub extern "C" fn gwaunidor_post(
+    table: &[u8; 9092],
+    state: &mut [u8; 264],
+    cell: u32,
+    value: i64,
+) -> u32
+    ensures { λ r. ⌜ MovedTo (postOf (tableFrom (now (table .entry))) (stateFrom (now (state .entry))) cell value) (now (state .exit)) r ⌝ }
+{
+    let s = states::load_state(state);
+    give(machine::post(memory::load(table), s, cell, value), state)
+}
+
+// Steps of the lowest eligible rule until none waits or the budget is used.
+#[no_mangle]
+pub extern "C" fn gwaunidor_run(
+    table: &[u8; 9092],
+    state: &mut [u8; 264],
+    budget: u32,
+    steps: &mut u32,
+) -> u32
+    ensures { λ r. ⌜ RanTo (runOf (tableFrom (now (table .entry))) (stateFrom (now (state .entry))) budget) (now (state .exit)) (now (steps .exit)) r ⌝ }
+{
+    let s = states::load_state(state);
+    let ran = machine::run(memory::load(table), s, budget);
+    let reached = ran.state;
+    states::store_state(reached, state);
+    *steps = ran.steps;
+    code(Answer {
+        number: ran.number,
+        place: ran.place,
+    })
+}
+
+// Writes a table as a book.
+#[no_mangle]
+pub extern "C" fn gwaunidor_write(table: &[u8; 9092], out: &mut [u8], written: &mut u32) -> u32
+    ensures { λ r. ⌜ WroteTo (writeOf (tableFrom (now (table .entry))) (now (out .entry))) (now (out .exit)) (now (written .exit)) r ⌝ }
+{
+    let w = writer::write(memory::load(table), out);
+    *written = w.length as u32;
+    code(Answer {
+        number: w.number,
+        place: w.place,
+    })
+}
+
+// How long a table's book is.
+#[no_mangle]
+pub extern "C" fn gwaunidor_size(table: &[u8; 9092], size: &mut u32) -> u32
+    ensures { λ r. ⌜ SizedTo (tableFrom (now (table .entry))) (now (size .exit)) r ⌝ }
+{
+    let t = memory::load(table);
+    *size = writer::size(t) as u32;
+    code(book::check(t))
 }

@@ -1,0 +1,32 @@
+-- The state is what the machine ensures of the table and the amounts that were loaded.
+use mathlib.Core.Path.{_≡_, ap₂, _∙_, subst}
+use borrow.Author.Needs.{needs}
+use Rattle.machine.specs.declared.Moved.{Moved}
+use Rattle.machine.specs.Step.{freshOf}
+use Rattle.abi.specs.Moves.{MovedTo}
+use Rattle.abi.proofs.gwaunidor_fresh.Statement.{statement}
+use Rattle.abi.proofs.gwaunidor_fresh.Tie as tie
+
+load-cells-requires : tie.Need-load-cells-requires
+load-cells-requires c κs = search needs
+
+load-requires : tie.Need-load-requires
+load-requires c κs = search needs
+
+fresh-requires : tie.Need-fresh-requires
+fresh-requires c κs = search needs
+
+give-requires : tie.Need-give-requires
+give-requires c κs = search needs
+
+returns : tie.Need-returns
+returns c =
+    let p = c .before .before in
+    let l = p .before in
+    subst (λ (m : Moved). MovedTo m (c .give .last .1 .0) (c .give .result))
+    (p .fresh .ensures ∙ ap₂ freshOf (l .load .ensures) (l .before .load-cells .ensures))
+    (c .give .ensures)
+
+pub gwaunidor-fresh-spec : {M : Type 1} → statement M
+gwaunidor-fresh-spec =
+    tie.close (tie.spec load-cells-requires load-requires fresh-requires give-requires returns)

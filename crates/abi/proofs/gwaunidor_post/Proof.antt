@@ -1,0 +1,42 @@
+-- The state is what the machine ensures of the table and the state that were loaded.
+use mathlib.Core.Path.{_≡_, ap, ap₂, _∙_, subst}
+use lib.IntN.{ℤ}
+use mir.Facts.{toZ-ofZ}
+use borrow.Author.Needs.{needs}
+use Rattle.book.specs.declared.Table.{Table}
+use Rattle.machine.specs.declared.State.{State}
+use Rattle.machine.specs.declared.Moved.{Moved}
+use Rattle.machine.specs.Step.{postOf}
+use Rattle.abi.specs.Moves.{MovedTo}
+use Rattle.abi.proofs.gwaunidor_post.Statement.{statement}
+use Rattle.abi.proofs.gwaunidor_post.Tie as tie
+
+load-state-requires : tie.Need-load-state-requires
+load-state-requires c κs = search needs
+
+load-requires : tie.Need-load-requires
+load-requires c κs = search needs
+
+post-requires : tie.Need-post-requires
+post-requires c κs = search needs
+
+give-requires : tie.Need-give-requires
+give-requires c κs = search needs
+
+returns : tie.Need-returns
+returns c =
+    let p = c .before .before in
+    let l = p .before in
+    let b = l .before .before .before in
+    let a = b .args in
+    let t = l .load .result in
+    let s = l .before .load-state .result in
+    subst (λ (m : Moved). MovedTo m (c .give .last .1 .0) (c .give .result))
+    (p .post .ensures
+    ∙ (ap (λ (z : ℤ). postOf t s (a .cell) z) (toZ-ofZ (b .fits .value))
+    ∙ ap₂ (λ (t : Table) (s : State). postOf t s (a .cell) (a .value)) (l .load .ensures) (l .before .load-state .ensures)))
+    (c .give .ensures)
+
+pub gwaunidor-post-spec : {M : Type 1} → statement M
+gwaunidor-post-spec =
+    tie.close (tie.spec load-state-requires load-requires post-requires give-requires returns)

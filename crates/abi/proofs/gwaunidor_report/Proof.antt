@@ -1,0 +1,33 @@
+-- The report is what the analysis ensures of the table that was loaded, and the bytes are its.
+use mathlib.Core.Path.{subst}
+use borrow.Author.Needs.{needs}
+use Rattle.book.specs.declared.Table.{Table}
+use Rattle.analysis.specs.Says.{ReportSays}
+use Rattle.abi.proofs.gwaunidor_report.Statement.{statement}
+use Rattle.abi.proofs.gwaunidor_report.Tie as tie
+
+load-requires : tie.Need-load-requires
+load-requires c κs = search needs
+
+report-requires : tie.Need-report-requires
+report-requires c κs = search needs
+
+store-report-requires : tie.Need-store-report-requires
+store-report-requires c κs = search needs
+
+code-requires : tie.Need-code-requires
+code-requires c κs = search needs
+
+returns : tie.Need-returns
+returns c =
+    let p = c .before .before .before in
+    record {
+      report = p .report .result;
+      says = subst (λ (t : Table). ReportSays t (p .report .result)) (p .before .load .ensures) (p .report .ensures);
+      bytes = c .before .store-report .ensures;
+      returned = c .code .ensures;
+    }
+
+pub gwaunidor-report-spec : {M : Type 1} → statement M
+gwaunidor-report-spec =
+    tie.close (tie.spec load-requires report-requires store-report-requires code-requires returns)

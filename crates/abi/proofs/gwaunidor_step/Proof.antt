@@ -1,0 +1,36 @@
+-- The state is what the machine ensures of the table and the state that were loaded.
+use mathlib.Core.Path.{_≡_, ap₂, _∙_, subst}
+use borrow.Author.Needs.{needs}
+use Rattle.book.specs.declared.Table.{Table}
+use Rattle.machine.specs.declared.State.{State}
+use Rattle.machine.specs.declared.Moved.{Moved}
+use Rattle.machine.specs.Step.{stepOf}
+use Rattle.abi.specs.Moves.{MovedTo}
+use Rattle.abi.proofs.gwaunidor_step.Statement.{statement}
+use Rattle.abi.proofs.gwaunidor_step.Tie as tie
+
+load-state-requires : tie.Need-load-state-requires
+load-state-requires c κs = search needs
+
+load-requires : tie.Need-load-requires
+load-requires c κs = search needs
+
+step-requires : tie.Need-step-requires
+step-requires c κs = search needs
+
+give-requires : tie.Need-give-requires
+give-requires c κs = search needs
+
+returns : tie.Need-returns
+returns c =
+    let p = c .before .before in
+    let l = p .before in
+    let a = l .before .before .before .args in
+    subst (λ (m : Moved). MovedTo m (c .give .last .1 .0) (c .give .result))
+    (p .step .ensures
+    ∙ ap₂ (λ (t : Table) (s : State). stepOf t s (a .rule)) (l .load .ensures) (l .before .load-state .ensures))
+    (c .give .ensures)
+
+pub gwaunidor-step-spec : {M : Type 1} → statement M
+gwaunidor-step-spec =
+    tie.close (tie.spec load-state-requires load-requires step-requires give-requires returns)

@@ -1,0 +1,49 @@
+-- The buffer and the length are what the writer ensures of the table that was loaded.
+use mathlib.Core.Path.{_≡_, ap, _∙_}
+use mathlib.Core.List.{List}
+use Prim.Native.Nat.{ℕ}
+use native.Mathlib.Omega.{arith}
+use borrow.Author.Needs.{needs}
+use Rattle.book.specs.declared.Table.{Table}
+use Rattle.book.specs.Check.{answer}
+use Rattle.writer.specs.declared.Written.{Written}
+use Rattle.writer.specs.Write.{writeOf}
+use Rattle.abi.specs.Code.{codeOf}
+use Rattle.abi.specs.Writes.{write-most}
+use Rattle.abi.proofs.gwaunidor_write.Statement.{statement}
+use Rattle.abi.proofs.gwaunidor_write.Tie as tie
+
+load-requires : tie.Need-load-requires
+load-requires c κs = search needs
+
+write-requires : tie.Need-write-requires
+write-requires c κs = search needs
+
+cast-written : tie.Need-cast-written
+cast-written c =
+    let p = c .before .before .before in
+    let l = p .before .before in
+    let e = ap (λ (w : Written × List ℕ). w .0 .length) (p .write .ensures) in
+    record { fits = omega (arith, e, write-most (l .load .result) (l .before .before .args .out .now)) }
+
+code-requires : tie.Need-code-requires
+code-requires c κs = search needs
+
+same-length : tie.Need-same-length
+same-length c = search needs
+
+returns : tie.Need-returns
+returns c =
+    let p = c .before .before .before .before in
+    let l = p .before .before in
+    let e = p .write .ensures ∙ ap (λ (t : Table). writeOf t (l .before .before .args .out .now)) (l .load .ensures) in
+    record {
+      bytes = ap (λ (w : Written × List ℕ). w .1) e;
+      written = ap (λ (w : Written × List ℕ). w .0 .length) e;
+      returned = c .code .ensures ∙ ap (λ (w : Written × List ℕ). codeOf (answer (w .0 .number) (w .0 .place))) e;
+    }
+
+pub gwaunidor-write-spec : {M : Type 1} → statement M
+gwaunidor-write-spec =
+    tie.close
+    (tie.spec load-requires write-requires cast-written code-requires same-length returns)

@@ -1,0 +1,71 @@
+-- What the two calls of the analysis leave and return. Assumes nothing.
+use mathlib.Core.Path.{_≡_, refl, sym, ap, _∙_, subst}
+use mathlib.Core.Logic.{⊎-elim}
+use mathlib.Core.List.{List}
+use Prim.Native.Nat.{ℕ, _^_, _≤_, _<_}
+use native.Mathlib.Omega.{arith}
+use lib.ListN.{length, List·getD-eq-default}
+use Rattle.mask.specs.SearchLaws.{lt-or-ge}
+use Rattle.endian.specs.Stands.{Bytes}
+use Rattle.rule.specs.declared.Rule.{Rule}
+use Rattle.rule.specs.Empty.{blankRule}
+use Rattle.book.specs.declared.Table.{Table}
+use Rattle.book.specs.Table.{ruleAt}
+use Rattle.book.specs.Check.{answer}
+use Rattle.judging.specs.declared.Report.{Report}
+use Rattle.judging.specs.declared.Bound.{Bound}
+use Rattle.analysis.specs.Says.{ReportSays, BoundSays}
+use Rattle.analysis.specs.SaysLaws.{report-unique, bound-of-unique}
+use Rattle.memory.specs.Memory.{tableFrom}
+use Rattle.memory.specs.RoundTrip.{HeldTable}
+use Rattle.memory.specs.Holds.{loaded-held}
+use Rattle.layouts.specs.Layout.{reportBytes}
+use Rattle.abi.specs.Code.{codeOf}
+
+-- the bytes and the code are those of a report that the analysis promises
+pub record ReportCrosses (t : Table) (out : List ℕ) (code : ℕ) : Type 0 where
+  pub report : Report
+  pub says : ReportSays t report
+  pub bytes : out ≡ reportBytes report
+  pub returned : code ≡ codeOf (answer (report .number) (report .place))
+
+-- the same for the step bound of a set
+pub record BoundCrosses (t : Table) (set out code : ℕ) : Type 0 where
+  pub bound : Bound
+  pub says : BoundSays t set bound
+  pub value : out ≡ bound .bound
+  pub returned : code ≡ codeOf (answer (bound .number) (bound .place))
+
+-- ---- no byte is left open: they are those of every report that the analysis promises
+
+module _ (t : Table) (out : List ℕ) (code : ℕ) (x : ReportCrosses t out code) (r : Report) (says : ReportSays t r) where
+  same-report : x .report ≡ r
+  same-report = report-unique t (x .report) r (x .says) says
+
+  pub report-bytes : out ≡ reportBytes r
+  report-bytes = x .bytes ∙ ap reportBytes same-report
+
+  pub report-code : code ≡ codeOf (answer (r .number) (r .place))
+  report-code = x .returned ∙ ap (λ (r : Report). codeOf (answer (r .number) (r .place))) same-report
+
+-- a precedes mask that was loaded has 32 bits
+loaded-precedes : (s : List ℕ) → Bytes s → length s ≡ 9092 → (i : ℕ) → ruleAt (tableFrom s) i .precedes < 2 ^ 32
+loaded-precedes s b size i =
+    let h = loaded-held s b size in
+    ⊎-elim (λ l. h .rule i l .precedes)
+    (λ l.
+    subst (λ (r : Rule). r .precedes < 2 ^ 32)
+    (sym (List·getD-eq-default (tableFrom s .rules) blankRule {n = i} (subst (λ (n : ℕ). n ≤ i) (sym (h .size)) l)))
+    (omega arith))
+    (lt-or-ge i 32)
+
+module _ (s : List ℕ) (b : Bytes s) (size : length s ≡ 9092) (set out code : ℕ)
+    (x : BoundCrosses (tableFrom s) set out code) (y : Bound) (says : BoundSays (tableFrom s) set y) where
+  same-bound : x .bound ≡ y
+  same-bound = bound-of-unique (tableFrom s) (λ i _. loaded-precedes s b size i) set (x .bound) y (x .says) says
+
+  pub bound-value : out ≡ y .bound
+  bound-value = x .value ∙ ap (λ (y : Bound). y .bound) same-bound
+
+  pub bound-code : code ≡ codeOf (answer (y .number) (y .place))
+  bound-code = x .returned ∙ ap (λ (y : Bound). codeOf (answer (y .number) (y .place))) same-bound

@@ -1,0 +1,46 @@
+// A report as the 512 bytes that cross the border.
+ghost use mathlib.Core.Path.{_≡_};
+ghost use mathlib.Core.Bool.{cond};
+ghost use Prim.Native.Nat.{_≤_};
+ghost use lib.ListN.{length};
+ghost use Rattle.endian.specs.Put.{put};
+ghost use Rattle.layouts.specs.Layout.{headBytes, marksBytes, reportBytes};
+use judging::Report;
+
+fn flag(b: bool) -> u8
+    ensures { λ r. ⌜ r ≡ cond b 1 0 ⌝ }
+{
+    if b {
+        return 1;
+    }
+    0
+}
+
+// All but the marks.
+fn put_head(out: &mut [u8], r: Report)
+    requires { ⌜ 16 ≤ length (now out) ⌝ }
+    ensures { λ _. ⌜ now (out .exit) ≡ put (now (out .entry)) 0 (headBytes r) ⌝ }
+{
+    endian::put_4(out, 0, r.number, r.place, flag(r.cleared), 0);
+    endian::put_u32(out, 4, r.faulty);
+    endian::put_u16(out, 8, r.failing);
+    endian::put_4(out, 10, r.first, r.second, r.culprit, r.other);
+    endian::put_u16(out, 14, 0);
+}
+
+fn put_marks(out: &mut [u8], marks: [u8; 496])
+    requires { ⌜ 512 ≤ length (now out) ⌝ }
+    ensures { λ _. ⌜ now (out .exit) ≡ put (now (out .entry)) 16 (marksBytes marks 496) ⌝ }
+{
+    for i in 0..496 {
+        out[16 + i] = marks[i];
+    }
+}
+
+pub fn store_report(r: Report, out: &mut [u8; 512])
+    ensures { λ _. ⌜ now (out .exit) ≡ reportBytes r ⌝ }
+{
+    let marks = r.marks;
+    put_head(out, r);
+    put_marks(out, marks);
+}

@@ -1,0 +1,87 @@
+-- The first i are written: one more where they end is the first i + 1.
+use mathlib.Core.Path.{_≡_, sym, ap, _∙_}
+use Prim.Native.Nat.{ℕ, _+_, _*_, _≤_, _-_}
+use native.Mathlib.Omega.{arith}
+use lib.IntN.{ℤ}
+use lib.ListN.{length}
+use mir.Facts.{toZ-ofZ}
+use borrow.Author.Needs.{needs, sfits-of}
+use Rattle.endian.specs.Put.{put, put-nil, put-next}
+use Rattle.endian.specs.Bytes.{i64Bytes}
+use Rattle.endian.specs.Joined.{joined}
+use Rattle.amounts.specs.Amounts.{at}
+use Rattle.states.specs.States.{cellsBytes}
+use Rattle.states.specs.StatesLaws.{length-cells, cells-more}
+use Rattle.states.proofs.put_cells.Statement.{statement}
+use Rattle.states.proofs.put_cells.Tie as tie
+
+abbrev Inv-loop : tie.InvT-loop
+Inv-loop out₀ cells i₀ out i = (i ≤ 32) × (out ≡ put out₀ 0 (cellsBytes cells i)) × (length out ≡ length out₀)
+
+abbrev μ-loop : tie.MeasureT-loop
+μ-loop out₀ cells i₀ out i = 32 - i
+
+loop-holds : tie.Need-loop-holds Inv-loop μ-loop
+unfolding cellsBytes joined
+loop-holds c = (search needs, sym (put-nil (c .before .args .out .now) 0), search needs)
+
+mul-put-i64 : tie.Need-mul-put-i64 Inv-loop μ-loop
+mul-put-i64 c = search needs
+
+mul-put-i64-2 : tie.Need-mul-put-i64-2 Inv-loop μ-loop
+mul-put-i64-2 c = search needs
+
+array-copy-out-put-i64 : tie.Need-array-copy-out-put-i64 Inv-loop μ-loop
+array-copy-out-put-i64 c = search needs
+
+put-i64-requires : tie.Need-put-i64-requires Inv-loop μ-loop
+put-i64-requires c κs = search needs
+
+add-i : tie.Need-add-i Inv-loop μ-loop
+add-i c = search needs
+
+loop-less : tie.Need-loop-less Inv-loop μ-loop
+loop-less c = search needs
+
+loop-again : tie.Need-loop-again Inv-loop μ-loop
+loop-again c =
+    let d = c .before .before in
+    let l = d .before .before .before .before in
+    let a = l .before .before .args in
+    let i = l .loop .i in
+    let n = length-cells (a .t2) i in (
+      search needs,
+      put-next (a .out .now) 0 (cellsBytes (a .t2) i) (l .loop .inv .1) (omega arith) (8 * i) (omega arith)
+          (i64Bytes (at (a .t2) i))
+          (d .put-i64 .ensures
+          ∙ ap (λ (z : ℤ). put (l .loop .out) (8 * i) (i64Bytes z)) (toZ-ofZ (sfits-of (d .before .put-i64-arg2 .given))))
+          ∙ ap (put (a .out .now) 0) (sym (cells-more (a .t2) i)),
+      search needs,
+    )
+
+same-length : tie.Need-same-length Inv-loop μ-loop
+same-length c = search needs
+
+returns : tie.Need-returns Inv-loop μ-loop
+returns c =
+    let l = c .before in
+    let a = l .before .before .args in
+    let e : l .loop .i ≡ 32 = omega arith in
+    l .loop .inv .1 ∙ ap (λ (i : ℕ). put (a .out .now) 0 (cellsBytes (a .t2) i)) e
+
+pub put-cells-spec : {M : Type 1} → statement M
+put-cells-spec =
+    tie.close
+    (tie.spec
+    Inv-loop
+    μ-loop
+    loop-holds
+    mul-put-i64
+    mul-put-i64-2
+    array-copy-out-put-i64
+    put-i64-requires
+    add-i
+    loop-less
+    loop-again
+    same-length
+    returns)

@@ -1,0 +1,44 @@
+-- The cells, and the two masks where they end: in the end nothing of the old bytes is left.
+use mathlib.Core.Path.{_≡_, sym, _∙_}
+use mathlib.Core.List.{_++_}
+use native.Mathlib.Omega.{arith}
+use lib.ListN.{length, length-append}
+use borrow.Author.Needs.{needs}
+use Rattle.endian.specs.Put.{put-next}
+use Rattle.endian.specs.Bytes.{u32Bytes, length-u32}
+use Rattle.memory.specs.MemoryLaws.{put-whole}
+use Rattle.states.specs.States.{cellsBytes, stateBytes}
+use Rattle.states.specs.StatesLaws.{length-cells, length-state}
+use Rattle.states.proofs.store_state.Statement.{statement}
+use Rattle.states.proofs.store_state.Tie as tie
+
+put-cells-requires : tie.Need-put-cells-requires
+put-cells-requires c κs = search needs
+
+put-u32-requires : tie.Need-put-u32-requires
+put-u32-requires c κs = search needs
+
+put-u32-requires-2 : tie.Need-put-u32-requires-2
+put-u32-requires-2 c κs = search needs
+
+returns : tie.Need-returns
+unfolding stateBytes
+returns c =
+    let w = c .before .before in
+    let p = w .before .before in
+    let a = p .before .before .before .args in
+    let s = a .s in
+    let old = a .out .now in
+    let size : length old ≡ 264 = search needs in
+    let b1 = cellsBytes (s .cells) 32 in
+    let b2 = b1 ++ u32Bytes (s .waiting) in
+    let n1 : length b1 ≡ 256 = length-cells (s .cells) 32 in
+    let n2 : length b2 ≡ 260 = rw (length-append, length-cells, length-u32) in
+    let w2 = put-next old 0 b1 (p .put-cells .ensures) (omega arith) 256 (omega arith) (u32Bytes (s .waiting))
+    (w .put-u32 .ensures) in
+    put-next old 0 b2 w2 (omega arith) 260 (omega arith) (u32Bytes (s .faults)) (c .put-u322 .ensures)
+    ∙ put-whole old (stateBytes s) (length-state s ∙ sym size)
+
+pub store-state-spec : {M : Type 1} → statement M
+store-state-spec =
+    tie.close (tie.spec put-cells-requires put-u32-requires put-u32-requires-2 returns)
