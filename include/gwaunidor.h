@@ -14,8 +14,8 @@
  * no byte is written. A call takes less than 128 kilobytes of stack (measured,
  * where all else here is proved).
  *
- * Numbers in lent bytes are little-endian; constants are 64-bit two's
- * complement.
+ * Numbers in lent bytes are little-endian; constants and amounts are 64-bit
+ * two's complement. A number behind a pointer is the processor's own uint32_t.
  */
 #ifndef GWAUNIDOR_H
 #define GWAUNIDOR_H
@@ -39,6 +39,25 @@ extern "C" {
  */
 #define GWAUNIDOR_TABLE_BYTES 9092
 #define GWAUNIDOR_RULE_BYTES 284
+
+/*
+ * A report, in bytes: 0 number, 1 place (255 when done), 2 verdict (1 cleared,
+ * 0 not), 3 zero, 4 to 7 the mask of faulty rules, 8 and 9 the count of failing
+ * pairs, 10 and 11 the first failing pair, 12 and 13 its culprits, 14 and 15
+ * zero, 16 to 511 a mark for each pair (0,1), (0,2) .. (30,31), row by row: 0
+ * ordered or absent, 1 passes, 2 fails.
+ */
+#define GWAUNIDOR_REPORT_BYTES 512
+
+/* 32 amounts, in bytes: one of 8 bytes for each cell, 0 from cell k up. */
+#define GWAUNIDOR_AMOUNTS_BYTES 256
+
+/*
+ * A state, in bytes: the 32 amounts, then the mask of waiting rules (4) and the
+ * mask of fault marks (4). Any bytes may be lent; a state that does not fit the
+ * table is refused by 11.
+ */
+#define GWAUNIDOR_STATE_BYTES 264
 
 /* The number and the place of what a call returned; done is 0 with place 0. */
 #define GWAUNIDOR_NUMBER(code) ((code) % 256u)
@@ -64,6 +83,106 @@ uint32_t gwaunidor_read(const uint8_t *book, size_t length, uint8_t *table);
  * being that slot) or 10.
  */
 uint32_t gwaunidor_check(const uint8_t *table);
+
+/*
+ * The report on a table: whether it is cleared, and what stands in the way.
+ *
+ * table   GWAUNIDOR_TABLE_BYTES, read only. Any bytes.
+ * out     GWAUNIDOR_REPORT_BYTES, all of them written. A refused report has
+ *         zeros from byte 2 on.
+ *
+ * Gives 0, cleared or not, or refuses as gwaunidor_check does.
+ */
+uint32_t gwaunidor_report(const uint8_t *table, uint8_t *out);
+
+/*
+ * The step bound of a set of rules.
+ *
+ * table   GWAUNIDOR_TABLE_BYTES, read only. Any bytes.
+ * set     a mask of 32 bits: bit i is rule i.
+ * bound   one number, written; 0 where refused.
+ *
+ * Gives 0, or refuses as gwaunidor_check does, by 11 (a bit from n up) or by
+ * 17.
+ */
+uint32_t gwaunidor_bound(const uint8_t *table, uint32_t set, uint32_t *bound);
+
+/*
+ * A fresh state: these amounts, nothing waiting and no fault marks.
+ *
+ * table   GWAUNIDOR_TABLE_BYTES, read only. Any bytes.
+ * amounts GWAUNIDOR_AMOUNTS_BYTES, read only. Any bytes.
+ * state   GWAUNIDOR_STATE_BYTES, all of them written; zeros where refused.
+ *
+ * Gives 0, or refuses as gwaunidor_check does or by 11.
+ */
+uint32_t gwaunidor_fresh(const uint8_t *table, const uint8_t *amounts,
+                         uint8_t *state);
+
+/*
+ * One step on a rule.
+ *
+ * table   GWAUNIDOR_TABLE_BYTES, read only. Any bytes.
+ * state   GWAUNIDOR_STATE_BYTES, changed on the spot; untouched where refused.
+ * rule    the rule's number; any number of 32 bits (256 is not 0).
+ *
+ * Gives 0, also where a test is false or the rule gets a fault mark, or refuses
+ * as gwaunidor_check does or by 11 to 14.
+ */
+uint32_t gwaunidor_step(const uint8_t *table, uint8_t *state, uint32_t rule);
+
+/*
+ * Posts a value to a cell.
+ *
+ * table   GWAUNIDOR_TABLE_BYTES, read only. Any bytes.
+ * state   GWAUNIDOR_STATE_BYTES, changed on the spot; untouched where refused.
+ * cell    the cell's number; any number of 32 bits (256 is not 0).
+ * value   any number of 64 bits.
+ *
+ * Gives 0, or refuses as gwaunidor_check does, by 11 or by 16.
+ */
+uint32_t gwaunidor_post(const uint8_t *table, uint8_t *state, uint32_t cell,
+                        int64_t value);
+
+/*
+ * Runs: steps the lowest-numbered eligible rule until none waits or the budget
+ * is used.
+ *
+ * table   GWAUNIDOR_TABLE_BYTES, read only. Any bytes.
+ * state   GWAUNIDOR_STATE_BYTES, changed on the spot; untouched where refused.
+ * budget  the most steps to take, 0 to 4,294,967,295.
+ * steps   one number, written: the steps taken; 0 where refused.
+ *
+ * Gives 0 when none waits, or 15 with place 255 when the budget is used while
+ * rules wait; 15 is no refusal: state and steps are those reached. Refuses as
+ * gwaunidor_check does or by 11.
+ */
+uint32_t gwaunidor_run(const uint8_t *table, uint8_t *state, uint32_t budget,
+                       uint32_t *steps);
+
+/*
+ * Writes a table as a book.
+ *
+ * table   GWAUNIDOR_TABLE_BYTES, read only. Any bytes.
+ * out     `out_len` bytes, the first of them written with the book; the bytes
+ *         after the book, and all of them where refused, are untouched.
+ * written one number, written: the book's length; 0 where refused.
+ *
+ * Gives 0, or refuses as gwaunidor_check does or by 18. A buffer of
+ * GWAUNIDOR_BOOK_BYTES is enough for every book.
+ */
+uint32_t gwaunidor_write(const uint8_t *table, uint8_t *out, size_t out_len,
+                         uint32_t *written);
+
+/*
+ * How long a table's book is.
+ *
+ * table   GWAUNIDOR_TABLE_BYTES, read only. Any bytes.
+ * size    one number, written: the book's length; 0 where refused.
+ *
+ * Gives 0, or refuses as gwaunidor_check does.
+ */
+uint32_t gwaunidor_size(const uint8_t *table, uint32_t *size);
 
 #ifdef __cplusplus
 }

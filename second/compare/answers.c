@@ -3,9 +3,12 @@
  * calls from standard input and writes what they give to standard output, until
  * the input ends. tests/suite/delivered.rs asks.
  *
- * A call is a byte, 'r' for read or 'c' for check, a length of 4 bytes and so
- * many bytes of book or table. An answer is the returned number, 4 bytes, and
- * the bytes of the table as the call left it.
+ * A call is a byte, a length of 4 bytes and so many bytes. After 'r' for read or
+ * 'c' for check they are a book or a table, and the answer is the returned
+ * number, 4 bytes, and the bytes of the table as the call left it. After the
+ * letter of another call on a table they are the table, the memory that the call
+ * writes, 256 bytes of amounts, a number of 4 bytes and a value of 8; the answer
+ * is the returned number, the number behind the pointer, and that memory.
  */
 #include "gwaunidor.h"
 
@@ -16,11 +19,14 @@ extern long write(int file, const void *bytes, size_t count);
 #define GUARD 64
 #define GUARD_BYTE 0x5A
 #define OLD_BYTE 0xA5
-#define MOST_BYTES 16384
+#define MOST_BYTES 32768
+#define REST_BYTES (GWAUNIDOR_AMOUNTS_BYTES + 4 + 8)
 
-static uint8_t book[MOST_BYTES];
+static uint8_t given[MOST_BYTES];
 static uint8_t lent[GUARD + GWAUNIDOR_TABLE_BYTES + GUARD];
 static uint8_t *const table = lent + GUARD;
+static uint8_t lent_out[GUARD + MOST_BYTES + GUARD];
+static uint8_t *const out = lent_out + GUARD;
 
 /* Takes so many bytes; 0 where the input ends first. */
 static int take(uint8_t *bytes, size_t count) {
@@ -51,38 +57,108 @@ static void fill(uint8_t *bytes, size_t count, uint8_t byte) {
         bytes[i] = byte;
 }
 
-static int guards_are_whole(void) {
+static void copy(uint8_t *to, const uint8_t *from, size_t count) {
     size_t i;
-    for (i = 0; i < GUARD; i++)
-        if (lent[i] != GUARD_BYTE || table[GWAUNIDOR_TABLE_BYTES + i] != GUARD_BYTE)
+    for (i = 0; i < count; i++)
+        to[i] = from[i];
+}
+
+static int same(const uint8_t *left, const uint8_t *right, size_t count) {
+    size_t i;
+    for (i = 0; i < count; i++)
+        if (left[i] != right[i])
             return 0;
     return 1;
 }
 
-/* One call and its answer; 0 where the input has ended or the call is none. */
-static int answer(void) {
-    uint8_t head[5], told[4];
-    uint32_t length, code;
+/* Whether the guards on both sides of so many lent bytes are whole. */
+static int guards_are_whole(const uint8_t *bytes, size_t count) {
+    size_t i;
+    for (i = 0; i < GUARD; i++)
+        if (bytes[i - GUARD] != GUARD_BYTE || bytes[count + i] != GUARD_BYTE)
+            return 0;
+    return 1;
+}
+
+static uint32_t number_at(const uint8_t *bytes) {
+    return bytes[0] | (uint32_t)bytes[1] << 8 | (uint32_t)bytes[2] << 16 | (uint32_t)bytes[3] << 24;
+}
+
+static int give_number(uint32_t number) {
+    uint8_t told[4];
     int i;
-    if (!take(head, 5))
-        return 0;
-    length = head[1] | (uint32_t)head[2] << 8 | (uint32_t)head[3] << 16 | (uint32_t)head[4] << 24;
-    if (length > MOST_BYTES || (head[0] == 'c' && length != GWAUNIDOR_TABLE_BYTES))
-        return 0;
-    fill(lent, sizeof lent, GUARD_BYTE);
-    if (head[0] == 'r') {
+    for (i = 0; i < 4; i++)
+        told[i] = (uint8_t)(number >> 8 * i);
+    return give(told, 4);
+}
+
+/* A read or a check, and its answer. */
+static int answer_with_table(uint8_t kind, size_t length) {
+    uint32_t code;
+    if (kind == 'r') {
         fill(table, GWAUNIDOR_TABLE_BYTES, OLD_BYTE);
-        if (!take(book, length))
-            return 0;
-        code = gwaunidor_read(book, length, table);
+        code = gwaunidor_read(given, length, table);
     } else {
-        if (!take(table, length))
-            return 0;
+        copy(table, given, GWAUNIDOR_TABLE_BYTES);
         code = gwaunidor_check(table);
     }
-    for (i = 0; i < 4; i++)
-        told[i] = (uint8_t)(code >> 8 * i);
-    return guards_are_whole() && give(told, 4) && give(table, GWAUNIDOR_TABLE_BYTES);
+    return guards_are_whole(table, GWAUNIDOR_TABLE_BYTES) && give_number(code)
+        && give(table, GWAUNIDOR_TABLE_BYTES);
+}
+
+/* The call of that letter, on the lent table and memory. */
+static uint32_t call(uint8_t kind, size_t size, const uint8_t *rest, uint32_t *word) {
+    uint32_t number = number_at(rest + GWAUNIDOR_AMOUNTS_BYTES);
+    uint64_t low = number_at(rest + GWAUNIDOR_AMOUNTS_BYTES + 4);
+    uint64_t high = number_at(rest + GWAUNIDOR_AMOUNTS_BYTES + 8);
+    switch (kind) {
+    case 'j':
+        return gwaunidor_report(table, out);
+    case 'b':
+        return gwaunidor_bound(table, number, word);
+    case 'f':
+        return gwaunidor_fresh(table, rest, out);
+    case 's':
+        return gwaunidor_step(table, out, number);
+    case 'p':
+        return gwaunidor_post(table, out, number, (int64_t)(high << 32 | low));
+    case 'n':
+        return gwaunidor_run(table, out, number, word);
+    case 'w':
+        return gwaunidor_write(table, out, size, word);
+    default:
+        return gwaunidor_size(table, word);
+    }
+}
+
+/* Another call on a table, and its answer; the table is as it was. */
+static int answer_on_table(uint8_t kind, size_t length) {
+    size_t size = length - GWAUNIDOR_TABLE_BYTES - REST_BYTES;
+    const uint8_t *memory = given + GWAUNIDOR_TABLE_BYTES;
+    uint32_t word = 0xA5A5A5A5u, code;
+    fill(lent_out, sizeof lent_out, GUARD_BYTE);
+    copy(table, given, GWAUNIDOR_TABLE_BYTES);
+    copy(out, memory, size);
+    code = call(kind, size, memory + size, &word);
+    return same(table, given, GWAUNIDOR_TABLE_BYTES) && guards_are_whole(table, GWAUNIDOR_TABLE_BYTES)
+        && guards_are_whole(out, size) && give_number(code) && give_number(word) && give(out, size);
+}
+
+/* One call and its answer; 0 where the input has ended or the call is none. */
+static int answer(void) {
+    uint8_t head[5];
+    uint32_t length;
+    if (!take(head, 5))
+        return 0;
+    length = number_at(head + 1);
+    if (length > MOST_BYTES || !take(given, length))
+        return 0;
+    fill(lent, sizeof lent, GUARD_BYTE);
+    if (head[0] == 'r' || (head[0] == 'c' && length == GWAUNIDOR_TABLE_BYTES))
+        return answer_with_table(head[0], length);
+    if (length < GWAUNIDOR_TABLE_BYTES + REST_BYTES)
+        return 0;
+    return answer_on_table(head[0], length);
 }
 
 int main(void) {

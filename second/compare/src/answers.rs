@@ -1,9 +1,33 @@
 //! The program `answers`, made of answers.c: the same calls, made from C on the
 //! archive that is delivered.
 
-use crate::border::TableBytes;
+use crate::border::{AmountsBytes, TableBytes, AMOUNTS_BYTES};
 use std::io::{BufReader, BufWriter, Read, Write};
 use std::process::{Child, ChildStdin, ChildStdout, Command, Stdio};
+
+const ENDED: &str = "the program answers ended: a guard byte changed, or it failed";
+
+/// Another call on a table: its letter, and what it takes beside the memory
+/// that it writes.
+#[derive(Clone, Copy)]
+pub struct Asked {
+    pub kind: u8,
+    pub amounts: AmountsBytes,
+    pub number: u32,
+    pub value: i64,
+}
+
+impl Asked {
+    /// A call that takes at most a number.
+    pub fn of(kind: u8, number: u32) -> Asked {
+        Asked {
+            kind,
+            amounts: [0; AMOUNTS_BYTES],
+            number,
+            value: 0,
+        }
+    }
+}
 
 pub struct Answers {
     program: Child,
@@ -34,17 +58,48 @@ impl Answers {
         self.call(b'c', &given, table)
     }
 
+    /// The memory that the call writes, and the number behind its pointer, come
+    /// back as the call left them.
+    pub fn on_table(
+        &mut self,
+        asked: &Asked,
+        table: &TableBytes,
+        out: &mut [u8],
+        word: &mut u32,
+    ) -> u32 {
+        let number = asked.number.to_le_bytes();
+        let value = asked.value.to_le_bytes();
+        self.ask(asked.kind, &[table, out, &asked.amounts, &number, &value]);
+        let code = self.hear_number();
+        *word = self.hear_number();
+        self.hear(out);
+        code
+    }
+
     fn call(&mut self, kind: u8, bytes: &[u8], table: &mut TableBytes) -> u32 {
-        let ended = "the program answers ended: a guard byte changed, or it failed";
+        self.ask(kind, &[bytes]);
+        let code = self.hear_number();
+        self.hear(table);
+        code
+    }
+
+    fn ask(&mut self, kind: u8, parts: &[&[u8]]) {
+        let bytes = parts.concat();
         let length = bytes.len() as u32;
-        self.ask.write_all(&[kind]).expect(ended);
-        self.ask.write_all(&length.to_le_bytes()).expect(ended);
-        self.ask.write_all(bytes).expect(ended);
-        self.ask.flush().expect(ended);
-        let mut code = [0; 4];
-        self.hear.read_exact(&mut code).expect(ended);
-        self.hear.read_exact(table).expect(ended);
-        u32::from_le_bytes(code)
+        self.ask.write_all(&[kind]).expect(ENDED);
+        self.ask.write_all(&length.to_le_bytes()).expect(ENDED);
+        self.ask.write_all(&bytes).expect(ENDED);
+        self.ask.flush().expect(ENDED);
+    }
+
+    fn hear_number(&mut self) -> u32 {
+        let mut number = [0; 4];
+        self.hear(&mut number);
+        u32::from_le_bytes(number)
+    }
+
+    fn hear(&mut self, bytes: &mut [u8]) {
+        self.hear.read_exact(bytes).expect(ENDED);
     }
 }
 

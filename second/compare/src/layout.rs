@@ -1,8 +1,12 @@
 //! A table of the second program as the border's bytes and back: "byte 0 and
 //! byte 3 not looked at (callers set 0), byte 1 n, byte 2 k, then 32 rules of
-//! 284 bytes each, laid out like a body with every slot present".
+//! 284 bytes each, laid out like a body with every slot present". A report and
+//! a state as bytes.
 
-use crate::border::{TableBytes, TABLE_BYTES};
+use crate::border::{AmountsBytes, ReportBytes, StateBytes, TableBytes};
+use crate::border::{AMOUNTS_BYTES, REPORT_BYTES, STATE_BYTES, TABLE_BYTES};
+use second::analysis::Report;
+use second::machine::State;
 use second::table::{Assign, Rule, Table, Test};
 
 /// The bytes of one rule.
@@ -33,6 +37,38 @@ pub fn table_of(bytes: &TableBytes) -> Table {
         *rule = rule_of(&bytes[start..start + RULE_BYTES]);
     }
     table
+}
+
+/// "0 number, 1 place, 2 verdict, 3 zero, 4 to 7 faulty mask, 8 to 9 count of
+/// failing pairs, 10 and 11 first pair, 12 and 13 culprits, 14 and 15 zero, 16
+/// to 511 the marks"
+pub fn report_bytes(report: &Report) -> ReportBytes {
+    let mut bytes = [0; REPORT_BYTES];
+    bytes[0..3].copy_from_slice(&[report.number, report.place, u8::from(report.cleared)]);
+    bytes[4..8].copy_from_slice(&report.faulty.to_le_bytes());
+    bytes[8..10].copy_from_slice(&report.failing.to_le_bytes());
+    let ((i, j), (first, second)) = (report.first, report.culprits);
+    bytes[10..14].copy_from_slice(&[i, j, first, second]);
+    bytes[16..].copy_from_slice(&report.marks);
+    bytes
+}
+
+/// "32 cells of 8"
+pub fn amounts_bytes(cells: &[i64; 32]) -> AmountsBytes {
+    let mut bytes = [0; AMOUNTS_BYTES];
+    for (cell, amount) in cells.iter().enumerate() {
+        bytes[8 * cell..8 * cell + 8].copy_from_slice(&amount.to_le_bytes());
+    }
+    bytes
+}
+
+/// "32 cells of 8, the waiting mask, the fault marks"
+pub fn state_bytes(state: &State) -> StateBytes {
+    let mut bytes = [0; STATE_BYTES];
+    bytes[..AMOUNTS_BYTES].copy_from_slice(&amounts_bytes(&state.cells));
+    bytes[256..260].copy_from_slice(&state.waiting.to_le_bytes());
+    bytes[260..264].copy_from_slice(&state.faults.to_le_bytes());
+    bytes
 }
 
 fn put_rule(bytes: &mut [u8], rule: &Rule) {

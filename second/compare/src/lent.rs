@@ -37,3 +37,34 @@ impl Lent {
         before.iter().chain(after).all(|&byte| byte == GUARD_BYTE)
     }
 }
+
+/// What a lent number is before a call; no call gives it back by chance.
+pub const OLD_NUMBER: u32 = 0xA5A5_A5A5;
+
+/// A 32-bit number between guard words.
+pub struct Word([u32; 3]);
+
+impl Word {
+    pub fn new() -> Word {
+        let guard = u32::from_ne_bytes([GUARD_BYTE; 4]);
+        Word([guard, OLD_NUMBER, guard])
+    }
+
+    pub fn number_mut(&mut self) -> &mut u32 {
+        &mut self.0[1]
+    }
+
+    /// The number; fails where a call wrote beside it.
+    pub fn number(&self) -> u32 {
+        let fresh = Word::new().0;
+        let whole = self.0[0] == fresh[0] && self.0[2] == fresh[2];
+        assert!(whole, "written beside a number");
+        self.0[1]
+    }
+}
+
+impl Default for Word {
+    fn default() -> Word {
+        Word::new()
+    }
+}

@@ -7,3 +7,4 @@ pub mod full;
 pub mod layout;
 pub mod lent;
 pub mod same;
+pub mod tables;

@@ -5,11 +5,13 @@
 //!
 //! cargo run --release --offline -p compare --bin bench
 
-use compare::border::{self, TableBytes, TABLE_BYTES};
+use compare::border::{self, TableBytes, REPORT_BYTES, TABLE_BYTES};
 use compare::full::full_table;
-use compare::layout::bytes_of;
+use compare::layout::{bytes_of, state_bytes};
 use second::books::night;
-use second::table::Table;
+use second::compose::{add, rule, table};
+use second::machine::State;
+use second::table::{Rule, Table};
 use std::hint::black_box;
 use std::time::Instant;
 
@@ -25,6 +27,25 @@ fn main() {
         line(&format!("check {name}"), check(&table, calls));
         line(&format!("read and check {name}"), both(&book, calls));
     }
+    line("report 32 rules sparse", report(&chain(), 1));
+    line("report 32 rules dense", report(&full_table(), 1));
+    let (proved, second) = run(&chain());
+    line("run of 31 steps", (proved, second));
+    line("run a step", (proved / 31.0, second / 31.0));
+}
+
+/// 32 rules: each of the first 31 watches a cell and adds to the next one, so
+/// that it wakes the next rule; the last one is never woken.
+fn chain() -> Table {
+    let link = |i: u8| {
+        let name = format!("link-{i}");
+        match i {
+            31 => rule(&name, &[], &[], &[]),
+            _ => rule(&name, &[usize::from(i)], &[], &[add(i + 1, i + 1, 1)]),
+        }
+    };
+    let rules: Vec<Rule> = (0..32).map(link).collect();
+    table(32, &rules)
 }
 
 fn line(what: &str, (proved, second): (f64, f64)) {
@@ -48,6 +69,34 @@ fn check(table: &Table, calls: usize) -> (f64, f64) {
         || border::check(black_box(&bytes)),
         || u32::from(second::check::check(black_box(table)).0),
     )
+}
+
+fn report(table: &Table, calls: usize) -> (f64, f64) {
+    let bytes = bytes_of(table);
+    let mut out = [0; REPORT_BYTES];
+    medians(
+        calls,
+        || border::report(black_box(&bytes), &mut out),
+        || u32::from(second::analysis::report(black_box(table)).number),
+    )
+}
+
+/// From rule 0 waiting until none waits, 31 steps.
+fn run(table: &Table) -> (f64, f64) {
+    let bytes = bytes_of(table);
+    let start = State {
+        waiting: 1,
+        ..State::default()
+    };
+    let lent = state_bytes(&start);
+    let mut steps = 0;
+    let times = medians(
+        1,
+        || border::run(black_box(&bytes), &mut lent.clone(), 31, &mut steps),
+        || u32::from(second::machine::run(table, black_box(&start), 31).0),
+    );
+    assert_eq!(steps, 31);
+    times
 }
 
 fn both(book: &[u8], calls: usize) -> (f64, f64) {

@@ -1,11 +1,14 @@
 //! The proved library against the second program, input by input. Every run
 //! makes the same inputs.
 
+mod analysis;
 mod books;
 mod changes;
 mod delivered;
 mod full;
 mod lengths;
+mod machine;
 mod sums;
 mod tables;
 mod tally;
+mod writing;
