@@ -1,0 +1,26 @@
+-- The word, the two numbers and the newline, one after another.
+use mathlib.Core.Path.{refl}
+use native.Mathlib.Omega.{arith}
+use Rattle.lines.specs.Text.{numbered}
+use Rattle.lines.specs.Added.{added-on, added-as}
+use borrow.Author.Needs.{needs}
+use Rattle.lines.proofs.numbered.Statement.{statement}
+use Rattle.lines.proofs.numbered.Tie as tie
+
+word-requires : tie.Need-word-requires
+word-requires c κs = search needs
+
+two-numbers-requires : tie.Need-two-numbers-requires
+two-numbers-requires c κs = search needs
+
+push-requires : tie.Need-push-requires
+push-requires c κs = search needs
+
+returns : tie.Need-returns
+unfolding numbered
+returns c =
+    added-as (added-on (added-on (c .before .before .word .ensures) (c .before .two-numbers .ensures)) (c .push .ensures)) refl
+    (omega arith)
+
+pub numbered-spec : {M : Type 1} → statement M
+numbered-spec = tie.close (tie.spec word-requires two-numbers-requires push-requires returns)

@@ -1,0 +1,87 @@
+-- The members below i have been added; each takes at most 11 bytes.
+use mathlib.Core.Path.{_≡_, refl, sym, ap, _∙_}
+use mathlib.Core.Bool.{Bool, cond}
+use mathlib.Core.List.{List, [], _++_}
+use mathlib.Core.Logic.{⊎-elim}
+use Prim.Native.Nat.{ℕ, _+_, _-_, _*_, _≤_}
+use native.Mathlib.Omega.{arith}
+use Rattle.mask.specs.Mask.{has}
+use Rattle.endian.specs.Joined.{joined, joined-more}
+use Rattle.lines.specs.Text.{spaced, membersText}
+use Rattle.lines.specs.Added.{Room, Added, added-on, added-none, added-as}
+use Rattle.lines.specs.declared.text.Text.{Text}
+use borrow.Author.Needs.{needs}
+use Rattle.lines.proofs.text.members.Statement.{statement}
+use Rattle.lines.proofs.text.members.Tie as tie
+
+-- what is added for i
+abbrev here : ℕ → ℕ → List ℕ
+here m i = cond (has m i) (spaced i) []
+
+next : (m i : ℕ) {t : Text} {r : Text} → Added t (joined i (here m)) (11 * i) r → {bs : List ℕ} → here m i ≡ bs
+    → {s : Text} → Added r bs 11 s → Added t (joined (i + 1) (here m)) (11 * (i + 1)) s
+next m i h e g =
+    added-as (added-on h g) (ap (λ (x : List ℕ). joined i (here m) ++ x) (sym e) ∙ sym (joined-more i (here m))) (omega arith)
+
+abbrev Inv-loop : tie.InvT-loop
+Inv-loop m r₀ i₀ r i = (i ≤ 32) × Room r₀ 352 × Added r₀ (joined i (here m)) (11 * i) r
+
+abbrev μ-loop : tie.MeasureT-loop
+μ-loop m r₀ i₀ r i = 32 - i
+
+loop-holds : tie.Need-loop-holds Inv-loop μ-loop
+unfolding joined
+loop-holds c = (omega arith, c .pre, added-none (c .args .t))
+
+has-requires : tie.Need-has-requires Inv-loop μ-loop
+has-requires c κs = search needs
+
+cast-number : tie.Need-cast-number Inv-loop μ-loop
+cast-number c = search needs
+
+number-requires : tie.Need-number-requires Inv-loop μ-loop
+number-requires c κs = search needs
+
+add-i : tie.Need-add-i Inv-loop μ-loop
+add-i c = search needs
+
+loop-less : tie.Need-loop-less Inv-loop μ-loop
+loop-less c = search needs
+
+loop-again : tie.Need-loop-again Inv-loop μ-loop
+loop-again c =
+    let m = c .before .before .before .before .args .m in
+    let at = c .before .before .before .loop in
+    let told = c .before .has .ensures in (
+      omega arith,
+      at .inv .1,
+      ⊎-elim
+          (λ w. rw (w .2) (next m (at .i) (at .inv .2) (ap (λ (b : Bool). cond b (spaced (at .i)) []) (sym told ∙ w .0 .taken)) (w .1 .ensures)))
+          (λ w.
+          rw (w .1)
+          (next m (at .i) (at .inv .2) (ap (λ (b : Bool). cond b (spaced (at .i)) []) (sym told ∙ w .0 .left))
+          (added-as (added-none (at .r)) refl (omega arith))))
+          (c .if1 .came),
+    )
+
+returns : tie.Need-returns Inv-loop μ-loop
+unfolding membersText
+returns c =
+    let at = c .before .loop in
+    let e : at .i ≡ 32 = omega arith in
+    added-as (at .inv .2) (ap (λ (i : ℕ). joined i (here (c .before .before .args .m))) e) (omega arith)
+
+pub members-spec : {M : Type 1} → statement M
+members-spec =
+    tie.close
+    (tie.spec
+    Inv-loop
+    μ-loop
+    loop-holds
+    has-requires
+    cast-number
+    number-requires
+    add-i
+    loop-less
+    loop-again
+    returns)

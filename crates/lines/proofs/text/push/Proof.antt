@@ -1,0 +1,28 @@
+-- The store just past the text makes it one byte longer.
+use Prim.Native.Nat.{_<_}
+use native.Mathlib.Numerals.{add-one}
+use native.Mathlib.Omega.{arith}
+use lib.ListN.{length, length-set}
+use lib.Seq.{take-suc-set}
+use borrow.Author.Needs.{needs}
+use Rattle.lines.proofs.text.push.Statement.{statement}
+use Rattle.lines.proofs.text.push.Tie as tie
+
+array-write-b : tie.Need-array-write-b
+array-write-b c = search needs
+
+add-t8 : tie.Need-add-t8
+add-t8 c = search needs
+
+returns : tie.Need-returns
+returns c =
+    let t = c .before .args .t in
+    let l : t .len < length (t .bytes) = omega arith in
+    record {
+      text = rw add-one (take-suc-set (t .bytes) (t .len) (c .before .args .x) l);
+      size = length-set (t .bytes) (t .len) (c .before .args .x);
+      most = omega arith;
+    }
+
+pub push-spec : {M : Type 1} → statement M
+push-spec = tie.close (tie.spec array-write-b add-t8 returns)

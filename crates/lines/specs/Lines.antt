@@ -1,0 +1,46 @@
+-- What `lines` promises. Assumes nothing.
+use mathlib.Core.Path.{_≡_}
+use mathlib.Core.Bool.{cond}
+use mathlib.Core.List.{List}
+use Prim.Native.Nat.{ℕ, _-_, _^_, _≤_}
+use lib.Dec.{ltb}
+use lib.ListN.{length}
+use Rattle.endian.specs.Put.{put}
+use Rattle.book.specs.declared.Table.{Table}
+use Rattle.reader.specs.Read.{readOf}
+use Rattle.judging.specs.declared.Report.{Report}
+use Rattle.judging.specs.declared.Bound.{Bound}
+use Rattle.analysis.specs.Says.{ReportSays, BoundSays}
+use Rattle.lines.specs.declared.text.Text.{Text}
+use Rattle.lines.specs.Added.{said, Room}
+use Rattle.lines.specs.Text.{refusedLine, fourLines}
+
+-- the length of the text and the buffer with the text at its start; a buffer that is too short stays as it is, and the length is 0
+abbrev pub laid : List ℕ → List ℕ → ℕ × List ℕ
+laid d text = cond (ltb (length d) (length text)) (0, d) (length text, put d 0 text)
+
+-- the four lines of a table: of its report, and of the step bound of all rules
+pub record FourLines (t : Table) (text : List ℕ) : Type 0 where
+  pub report : Report
+  pub says : ReportSays t report
+  pub bound : Bound
+  pub bounds : BoundSays t (2 ^ (t .n) - 1) bound
+  pub is : text ≡ fourLines t report bound
+
+-- a text that says them
+pub record Four (t : Table) (r : Text) : Type 0 where
+  pub lines : FourLines t (said r)
+  pub room : Room r 0
+
+-- what is printed for a book
+pub record TextOf (s text : List ℕ) : Type 0 where
+  pub refused : (readOf s .number ≡ 0 → ⊥) → text ≡ refusedLine (readOf s .number) (readOf s .place)
+  pub done : readOf s .number ≡ 0 → FourLines (readOf s .table) text
+
+-- "It reads a book .. and prints": the length r and the buffer e that a call gives for the book s and the buffer d
+pub record LinesSay (s d : List ℕ) (r : ℕ) (e : List ℕ) : Type 0 where
+  pub text : List ℕ
+  pub printed : TextOf s text
+  -- so a buffer of 512 bytes is never too short
+  pub most : length text ≤ 512
+  pub laid : (r, e) ≡ laid d text

@@ -1,0 +1,47 @@
+-- What `lines` needs of a book that was read, and of the set of all its rules. Assumes nothing.
+use mathlib.Core.Path.{_≡_, refl, sym, ap, _∙_, subst}
+use mathlib.Core.Bool.{Bool, true, false, cond}
+use mathlib.Core.List.{List}
+use Prim.Native.Nat.{ℕ, _-_, _^_, _≤_, _<_}
+use native.Mathlib.Omega.{arith}
+use lib.Dec.{ltb}
+use lib.ListN.{length}
+use lib.Pow.{pow-pos, pow-mono}
+use borrow.Author.Tests.{ltb-false, le-ltb}
+use Rattle.endian.specs.Put.{put}
+use Rattle.mask.specs.Mask.{has}
+use Rattle.mask.specs.Bits.{ext, has-ones}
+use Rattle.book.specs.Sound.{parts}
+use Rattle.reader.specs.declared.Reading.{Reading}
+use Rattle.reader.specs.Read.{readOf, tableIn}
+use Rattle.reader.specs.ReadLaws.{read-done}
+use Rattle.lines.specs.Lines.{LinesSay}
+
+-- a book that was read has at most 32 rules
+pub few-rules : (s : List ℕ) → readOf s .number ≡ 0 → readOf s .table .n ≤ 32
+few-rules s e =
+    let r = read-done s e in
+    subst (λ (x : Reading). x .table .n ≤ 32) (sym (r .reading)) (parts (tableIn s) (r .sound) .sizes .rules)
+
+-- the mask of the numbers below n
+pub all-rules : (n set : ℕ) → n ≤ 32 → set < 2 ^ 32 → ((k : ℕ) → has set k ≡ ltb k n) → set ≡ 2 ^ n - 1
+all-rules n set few h e =
+    let one = pow-pos n in
+    let top = pow-mono few in
+    ext 32 set (2 ^ n - 1) h (omega arith) (λ i l. e i ∙ sym (has-ones n i))
+
+-- the length that is given lies in the buffer
+pub within : {s d : List ℕ} {r : ℕ} {e : List ℕ} → LinesSay s d r e → r ≤ length d
+within {s} {d} {r} {e} h =
+    subst (λ (x : ℕ). x ≤ length d) (sym (ap (λ (x : ℕ × List ℕ). x .0) (h .laid)))
+    (pick (ltb (length d) (length (h .text))) refl)
+  where
+    pick : (b : Bool) → ltb (length d) (length (h .text)) ≡ b
+        → cond {A = ℕ × List ℕ} b (0, d) (length (h .text), put d 0 (h .text)) .0 ≤ length d
+    pick true q = omega arith
+    pick false q = ltb-false (length d) (length (h .text)) q
+
+-- a buffer of 512 bytes always gets the text
+pub enough : {s d : List ℕ} {r : ℕ} {e : List ℕ} → (h : LinesSay s d r e) → 512 ≤ length d
+    → _≡_ {A = ℕ × List ℕ} (r, e) (length (h .text), put d 0 (h .text))
+enough {s} {d} h l = h .laid ∙ rw (le-ltb (length d) (length (h .text)) (omega (arith, h .most))) refl
