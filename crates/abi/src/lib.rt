@@ -12,6 +12,7 @@ ghost use Rattle.abi.specs.Code.{codeOf, answerOf};
 ghost use Rattle.abi.specs.Analysed.{ReportCrosses, BoundCrosses};
 ghost use Rattle.abi.specs.Moves.{MovedTo, RanTo};
 ghost use Rattle.abi.specs.Writes.{WroteTo, SizedTo};
+ghost use Rattle.abi.specs.Printed.{PrintedTo};
 use book::Answer;
 use machine::Moved;
 
@@ -170,4 +171,18 @@ pub extern "C" fn gwaunidor_size(table: &[u8; 9092], size: &mut u32) -> u32
     let t = memory::load(table);
     *size = writer::size(t) as u32;
     code(book::check(t))
+}
+
+// The report program's lines for a book.
+#[no_mangle]
+pub extern "C" fn gwaunidor_lines(book: &[u8], out: &mut [u8], written: &mut u32) -> u32
+    ensures { λ r. ⌜ PrintedTo (now (book .entry)) (now (out .entry)) (now (out .exit)) (now (written .exit)) r ⌝ }
+{
+    let printed = lines::lines(book, out);
+    *written = printed as u32;
+    let told = reader::read(book);
+    code(Answer {
+        number: told.number,
+        place: told.place,
+    })
 }
