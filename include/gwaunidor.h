@@ -59,6 +59,9 @@ extern "C" {
  */
 #define GWAUNIDOR_STATE_BYTES 264
 
+/* A buffer of so many bytes is long enough for a book's lines. */
+#define GWAUNIDOR_LINES_BYTES 512
+
 /* The number and the place of what a call returned; done is 0 with place 0. */
 #define GWAUNIDOR_NUMBER(code) ((code) % 256u)
 #define GWAUNIDOR_PLACE(code) ((code) / 256u)
@@ -183,6 +186,23 @@ uint32_t gwaunidor_write(const uint8_t *table, uint8_t *out, size_t out_len,
  * Gives 0, or refuses as gwaunidor_check does.
  */
 uint32_t gwaunidor_size(const uint8_t *table, uint32_t *size);
+
+/*
+ * What the report program prints for a book: four lines, or one that begins
+ * with `refused`, in ASCII, each ended by a newline and none by a zero byte.
+ *
+ * book    `length` bytes, read only. Any length; any bytes.
+ * out     `out_len` bytes, the first of them written with the lines; the bytes
+ *         after them are untouched. A buffer that is too short for all of the
+ *         lines is left as it was.
+ * written one number, written: the lines' length; 0 where the buffer is too
+ *         short.
+ *
+ * Gives what gwaunidor_read gives for the book; the lines are written also
+ * where it is refused. A buffer of GWAUNIDOR_LINES_BYTES is always enough.
+ */
+uint32_t gwaunidor_lines(const uint8_t *book, size_t length, uint8_t *out,
+                         size_t out_len, uint32_t *written);
 
 #ifdef __cplusplus
 }

@@ -1,25 +1,25 @@
 -- What the two calls of the analysis leave and return. Assumes nothing.
-use mathlib.Core.Path.{_≡_, refl, sym, ap, _∙_, subst}
+use mathlib.Core.Path.{_≡_, sym, ap, _∙_, subst}
 use mathlib.Core.Logic.{⊎-elim}
-use mathlib.Core.List.{List}
+use mathlib.Core.List.{List, _∷_}
 use Prim.Native.Nat.{ℕ, _^_, _≤_, _<_}
 use native.Mathlib.Omega.{arith}
-use lib.ListN.{length, List·getD-eq-default}
+use lib.ListN.{length, replicate, List·getD-eq-default}
 use Rattle.mask.specs.SearchLaws.{lt-or-ge}
 use Rattle.endian.specs.Stands.{Bytes}
 use Rattle.rule.specs.declared.Rule.{Rule}
 use Rattle.rule.specs.Empty.{blankRule}
 use Rattle.book.specs.declared.Table.{Table}
 use Rattle.book.specs.Table.{ruleAt}
-use Rattle.book.specs.Check.{answer}
+use Rattle.book.specs.Check.{answer, checkOf}
 use Rattle.judging.specs.declared.Report.{Report}
 use Rattle.judging.specs.declared.Bound.{Bound}
 use Rattle.analysis.specs.Says.{ReportSays, BoundSays}
 use Rattle.analysis.specs.SaysLaws.{report-unique, bound-of-unique}
 use Rattle.memory.specs.Memory.{tableFrom}
-use Rattle.memory.specs.RoundTrip.{HeldTable}
 use Rattle.memory.specs.Holds.{loaded-held}
 use Rattle.layouts.specs.Layout.{reportBytes}
+use Rattle.layouts.specs.LayoutLaws.{only-zeros}
 use Rattle.abi.specs.Code.{codeOf}
 
 -- the bytes and the code are those of a report that the analysis promises
@@ -48,6 +48,19 @@ module _ (t : Table) (out : List ℕ) (code : ℕ) (x : ReportCrosses t out code
   pub report-code : code ≡ codeOf (answer (r .number) (r .place))
   report-code = x .returned ∙ ap (λ (r : Report). codeOf (answer (r .number) (r .place))) same-report
 
+pub report-determined : (t : Table) (out other : List ℕ) (code next : ℕ) → ReportCrosses t out code
+    → ReportCrosses t other next → (out ≡ other) × (code ≡ next)
+report-determined t out other code next x y = (
+  report-bytes t out code x (y .report) (y .says) ∙ sym (y .bytes),
+  report-code t out code x (y .report) (y .says) ∙ sym (y .returned),
+)
+
+-- "A refused report has only zeros beside number and place."
+pub report-refused : (t : Table) (out : List ℕ) (code : ℕ) → ReportCrosses t out code → (checkOf t .number ≡ 0 → ⊥)
+    → out ≡ checkOf t .number ∷ checkOf t .place ∷ replicate 510 0
+report-refused t out code x h =
+    x .bytes ∙ (ap reportBytes (x .says .refused h) ∙ only-zeros (checkOf t .number) (checkOf t .place))
+
 -- a precedes mask that was loaded has 32 bits
 loaded-precedes : (s : List ℕ) → Bytes s → length s ≡ 9092 → (i : ℕ) → ruleAt (tableFrom s) i .precedes < 2 ^ 32
 loaded-precedes s b size i =
@@ -69,3 +82,10 @@ module _ (s : List ℕ) (b : Bytes s) (size : length s ≡ 9092) (set out code :
 
   pub bound-code : code ≡ codeOf (answer (y .number) (y .place))
   bound-code = x .returned ∙ ap (λ (y : Bound). codeOf (answer (y .number) (y .place))) same-bound
+
+pub bound-determined : (s : List ℕ) → Bytes s → length s ≡ 9092 → (set out other code next : ℕ)
+    → BoundCrosses (tableFrom s) set out code → BoundCrosses (tableFrom s) set other next → (out ≡ other) × (code ≡ next)
+bound-determined s b size set out other code next x y = (
+  bound-value s b size set out code x (y .bound) (y .says) ∙ sym (y .value),
+  bound-code s b size set out code x (y .bound) (y .says) ∙ sym (y .returned),
+)

@@ -16,7 +16,7 @@ use Rattle.book.specs.Check.{checkOf}
 use Rattle.machine.specs.declared.State.{State}
 use Rattle.machine.specs.declared.Ran.{Ran}
 use Rattle.machine.specs.State.{stateBad, still, zeros}
-use Rattle.machine.specs.Step.{moved, answered, effect, renewed, stepNumber, stepOf, postNumber, postOf, freshNumber, freshOf}
+use Rattle.machine.specs.Step.{moved, answered, effect, stepNumber, stepOf, postNumber, postOf, freshNumber, freshOf}
 use Rattle.machine.specs.Run.{ran, next, later, runs, runOf}
 use Rattle.states.specs.States.{stateFrom, cellsBytes, stateBytes}
 use Rattle.states.specs.RoundTrip.{state-written}

@@ -1,15 +1,13 @@
 -- What the calls of the writer leave and return, and that a book's length has 32 bits. Assumes nothing.
-use mathlib.Core.Path.{_≡_, sym, ap, _∙_, subst}
+use mathlib.Core.Path.{_≡_, sym, ap, subst}
 use mathlib.Core.List.{List}
-use Prim.Native.Nat.{ℕ, _^_, _≤_, _<_}
+use Prim.Native.Nat.{ℕ, _≤_}
 use native.Mathlib.Decide.{ℕ-discrete}
 use native.Mathlib.Omega.{arith}
-use lib.ListN.{length}
 use Rattle.book.specs.declared.Table.{Table}
 use Rattle.book.specs.Check.{answer, checkOf}
 use Rattle.book.specs.Sound.{sound-by}
 use Rattle.writer.specs.declared.Written.{Written}
-use Rattle.writer.specs.Book.{bookOf}
 use Rattle.writer.specs.BookLaws.{largest}
 use Rattle.writer.specs.Write.{writeOf, sizeOf}
 use Rattle.writer.specs.WriteLaws.{size-refused, size-done, wrote, untouched}

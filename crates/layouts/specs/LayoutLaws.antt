@@ -2,7 +2,7 @@
 use mathlib.Core.Path.{_≡_, refl}
 use mathlib.Core.Bool.{false}
 use mathlib.Core.List.{List, _∷_}
-use Prim.Native.Nat.{ℕ, _+_}
+use Prim.Native.Nat.{ℕ}
 use lib.ListN.{length, getD, replicate, length-append}
 use Rattle.endian.specs.Bytes.{u16Bytes, u32Bytes, length-u16, length-u32}
 use Rattle.rule.specs.Fill.{length-upto}

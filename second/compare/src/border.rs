@@ -48,6 +48,13 @@ mod library {
             written: &mut u32,
         ) -> u32;
         pub fn gwaunidor_size(table: &TableBytes, size: &mut u32) -> u32;
+        pub fn gwaunidor_lines(
+            book: *const u8,
+            length: usize,
+            out: *mut u8,
+            out_len: usize,
+            written: &mut u32,
+        ) -> u32;
     }
 }
 
@@ -121,4 +128,20 @@ pub fn write(table: &TableBytes, out: &mut [u8], written: &mut u32) -> u32 {
 pub fn size(table: &TableBytes, size: &mut u32) -> u32 {
     // SAFETY: the call only reads the table; the number is lent for it alone.
     unsafe { library::gwaunidor_size(table, size) }
+}
+
+/// The report program's lines for a book.
+pub fn lines(book: &[u8], out: &mut [u8], written: &mut u32) -> u32 {
+    // SAFETY: the pointers and the lengths are those of slices, of which the
+    // call only reads the first; the second and the number are lent for it
+    // alone.
+    unsafe {
+        library::gwaunidor_lines(
+            book.as_ptr(),
+            book.len(),
+            out.as_mut_ptr(),
+            out.len(),
+            written,
+        )
+    }
 }

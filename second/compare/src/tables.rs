@@ -13,7 +13,7 @@ use std::cell::RefCell;
 
 /// A table that both programs have, and who answers: the library that is
 /// linked, or the program `answers`.
-pub struct Bench<'a> {
+pub struct OnTable<'a> {
     table: &'a Table,
     lent: Lent,
     answers: Option<&'a RefCell<Answers>>,
@@ -22,11 +22,11 @@ pub struct Bench<'a> {
 /// What a call gave: number and place.
 pub type Given = (u32, u32);
 
-impl<'a> Bench<'a> {
+impl<'a> OnTable<'a> {
     /// Asks the library that is linked, or from C the archive that is delivered.
-    pub fn new(table: &'a Table, answers: Option<&'a RefCell<Answers>>) -> Bench<'a> {
+    pub fn new(table: &'a Table, answers: Option<&'a RefCell<Answers>>) -> OnTable<'a> {
         let lent = Lent::new(&bytes_of(table));
-        Bench {
+        OnTable {
             table,
             lent,
             answers,

@@ -1,5 +1,5 @@
 -- The state and the steps are what the machine ensures of the table and the state that were loaded.
-use mathlib.Core.Path.{_≡_, refl, ap₂, _∙_, subst}
+use mathlib.Core.Path.{refl, ap₂, _∙_, subst}
 use borrow.Author.Needs.{needs}
 use Rattle.book.specs.declared.Table.{Table}
 use Rattle.machine.specs.declared.State.{State}

@@ -1,5 +1,5 @@
 -- The state is what the machine ensures of the table and the state that were loaded.
-use mathlib.Core.Path.{_≡_, ap₂, _∙_, subst}
+use mathlib.Core.Path.{ap₂, _∙_, subst}
 use borrow.Author.Needs.{needs}
 use Rattle.book.specs.declared.Table.{Table}
 use Rattle.machine.specs.declared.State.{State}

@@ -2,14 +2,16 @@
 //! don't, amounts near both limits, tables that are refused.
 
 use crate::tally::Tally;
-use compare::tables::Bench;
+use compare::answers::Answers;
+use compare::tables::OnTable;
 use second::books::night;
 use second::generate::{calls, small_table, spoil, state, table, unfitting_state, Calls, Random};
 use second::machine::State;
 use second::sets::members;
 use second::table::Table;
+use std::cell::RefCell;
 
-const TABLES: u64 = 20_000;
+const SCENES: u64 = 20_000;
 const STEPS_EACH: usize = 5;
 
 /// Mostly a small table, now and then one of any size or one that is refused.
@@ -44,21 +46,30 @@ fn scene(seed: u64) -> (Random, Table, State, Calls) {
 #[test]
 fn fresh_states() {
     let mut tally = Tally::new("fresh states");
-    for seed in 0..TABLES {
-        let (_, table, state, _) = scene(seed);
-        tally.add(Bench::new(&table, None).fresh(&state.cells));
-    }
+    compare_fresh(None, &mut tally, SCENES);
     tally.close(20_000, &[0, 6, 7, 11], 50);
+}
+
+pub fn compare_fresh(answers: Option<&RefCell<Answers>>, tally: &mut Tally, scenes: u64) {
+    for seed in 0..scenes {
+        let (_, table, state, _) = scene(seed);
+        tally.add(OnTable::new(&table, answers).fresh(&state.cells));
+    }
+}
+
+#[test]
+fn steps() {
+    let mut tally = Tally::new("steps");
+    compare_steps(None, &mut tally, SCENES);
+    tally.close(100_000, &[0, 6, 7, 11, 12, 13, 14], 100);
 }
 
 /// Some steps one after another, mostly on a waiting rule; a new state where
 /// none waits.
-#[test]
-fn steps() {
-    let mut tally = Tally::new("steps");
-    for seed in 0..TABLES {
+pub fn compare_steps(answers: Option<&RefCell<Answers>>, tally: &mut Tally, scenes: u64) {
+    for seed in 0..scenes {
         let (mut random, table, mut state, _) = scene(seed);
-        let bench = Bench::new(&table, None);
+        let both = OnTable::new(&table, answers);
         for _ in 0..STEPS_EACH {
             if state.waiting == 0 {
                 state = any_state(&mut random, &table);
@@ -68,30 +79,38 @@ fn steps() {
                 true => calls(random.bits(), &table).rule,
                 false => random.pick(&waiting) as u32,
             };
-            let (given, after) = bench.step(&state, rule);
+            let (given, after) = both.step(&state, rule);
             tally.add(given);
             state = after;
         }
     }
-    tally.close(100_000, &[0, 6, 7, 11, 12, 13, 14], 100);
 }
 
 #[test]
 fn postings() {
     let mut tally = Tally::new("postings");
-    for seed in 0..TABLES {
-        let (_, table, state, calls) = scene(seed);
-        let (given, _) = Bench::new(&table, None).post(&state, calls.cell, calls.value);
-        tally.add(given);
-    }
+    compare_postings(None, &mut tally, SCENES);
     tally.close(20_000, &[0, 6, 7, 11, 16], 50);
 }
 
-/// A small table ends, so that its budget may be the largest.
+pub fn compare_postings(answers: Option<&RefCell<Answers>>, tally: &mut Tally, scenes: u64) {
+    for seed in 0..scenes {
+        let (_, table, state, calls) = scene(seed);
+        let (given, _) = OnTable::new(&table, answers).post(&state, calls.cell, calls.value);
+        tally.add(given);
+    }
+}
+
 #[test]
 fn runs() {
     let mut tally = Tally::new("runs");
-    for seed in 0..TABLES {
+    compare_runs(None, &mut tally, SCENES);
+    tally.close(20_000, &[0, 6, 7, 11, 15], 50);
+}
+
+/// A table that ends may have the largest budget.
+pub fn compare_runs(answers: Option<&RefCell<Answers>>, tally: &mut Tally, scenes: u64) {
+    for seed in 0..scenes {
         let (mut random, table, state, calls) = scene(seed);
         let ends = second::analysis::bound(&table, 0).0 == 0;
         let budget = match random.below(4) {
@@ -99,10 +118,9 @@ fn runs() {
             1 => random.below(300) as u32,
             _ => calls.budget,
         };
-        let (given, _) = Bench::new(&table, None).run(&state, budget);
+        let (given, _) = OnTable::new(&table, answers).run(&state, budget);
         tally.add(given);
     }
-    tally.close(20_000, &[0, 6, 7, 11, 15], 50);
 }
 
 /// "From zeros, post 5 to cell 0: starting with 0, cell 2 ends 9; starting with
@@ -110,14 +128,14 @@ fn runs() {
 #[test]
 fn the_night_book() {
     let night = night();
-    let bench = Bench::new(&night, None);
-    let (_, posted) = bench.post(&State::default(), 0, 5);
+    let both = OnTable::new(&night, None);
+    let (_, posted) = both.post(&State::default(), 0, 5);
     for (first, ends) in [(0, 9), (1, 7)] {
-        let (_, after) = bench.step(&posted, first);
-        let (given, reached) = bench.run(&after, 2);
+        let (_, after) = both.step(&posted, first);
+        let (given, reached) = both.run(&after, 2);
         assert_eq!((given, reached.cells[2]), ((0, 255), ends));
     }
-    assert_eq!(bench.run(&posted, 2).0, (15, 255));
-    assert_eq!(bench.step(&posted, 256).0, (12, 255));
-    assert_eq!(bench.post(&posted, 256, 1).0, (16, 255));
+    assert_eq!(both.run(&posted, 2).0, (15, 255));
+    assert_eq!(both.step(&posted, 256).0, (12, 255));
+    assert_eq!(both.post(&posted, 256, 1).0, (16, 255));
 }
