@@ -1,4 +1,5 @@
--- What the contracts of `lines` cite: `Text` is what is printed, `Lines` the promise of the call, `Added` what the parts of a text do.
+-- What the contracts of `lines` cite: `Text` is what is printed, `Lines` the promise of the call, `Added` how a text grows. `Value` says that
+-- digits say their number, `LinesUnique` that the promise determines the result; `Cases` has the paper's example.
 pub mod Text
 pub mod TextLaws
 pub mod Value

@@ -19,7 +19,7 @@ use Rattle.lines.specs.Text.{refusedLine, fourLines}
 abbrev pub laid : List ℕ → List ℕ → ℕ × List ℕ
 laid d text = cond (ltb (length d) (length text)) (0, d) (length text, put d 0 text)
 
--- the four lines of a table: of its report, and of the step bound of all rules
+-- the four lines of a table: of its report, and of the step bound of all rules, the set of the numbers below n
 pub record FourLines (t : Table) (text : List ℕ) : Type 0 where
   pub report : Report
   pub says : ReportSays t report

@@ -17,7 +17,7 @@ use Rattle.analysis.specs.SaysLaws.{report-unique, bound-of-unique}
 use Rattle.lines.specs.Text.{fourLines}
 use Rattle.lines.specs.Lines.{laid, FourLines, TextOf, LinesSay}
 
--- the masks of a table whose precedes masks have 32 bits
+-- the precedes masks of a table have 32 bits
 abbrev Narrow : Table → Type 0
 Narrow t = (i : ℕ) → i < t .n → ruleAt t i .precedes < 2 ^ 32
 

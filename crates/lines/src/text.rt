@@ -57,7 +57,7 @@ pub fn word(t: Text, w: &[u8]) -> Text
     r
 }
 
-// The last `f` decimal digits of x, from its first that is not 0.
+// A number in decimal, of at most f digits.
 fn digits(t: Text, x: u32, f: usize) -> Text
     requires { ⌜ Room t f ⌝ }
     ensures { λ r. ⌜ Added t (digitsTo f x) f r ⌝ }

@@ -7,6 +7,7 @@ mod changes;
 mod delivered;
 mod full;
 mod lengths;
+mod lines;
 mod machine;
 mod sums;
 mod tables;

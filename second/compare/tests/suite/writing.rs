@@ -2,20 +2,60 @@
 
 use crate::tally::Tally;
 use compare::answers::Answers;
+use compare::border;
 use compare::full::full_table;
 use compare::tables::OnTable;
-use second::generate::{spoil, table, Random};
+use second::generate::{book, spoil, table, torn_book, Random};
 use std::cell::RefCell;
 
-const TABLES: u64 = 10_000;
+const TABLES: u64 = 100_000;
+const AROUND: u64 = 300;
+const BOOKS: u64 = 50_000;
 const NUMBERS: [usize; 8] = [0, 3, 5, 6, 7, 8, 9, 10];
 
 #[test]
 fn tables_of_the_generator() {
     let (mut sizes, mut tally) = (Tally::new("sizes"), Tally::new("writes"));
     compare_writes(None, &mut sizes, &mut tally, TABLES);
-    sizes.close(10_000, &NUMBERS, 5);
-    tally.close(40_000, &NUMBERS, 5);
+    sizes.close(100_000, &NUMBERS, 50);
+    tally.close(400_000, &NUMBERS, 50);
+}
+
+/// "a done write leaves the bytes after the book untouched"
+#[test]
+fn every_length_around_the_book() {
+    let mut tally = Tally::new("writes, every length around the book's");
+    for seed in 0..AROUND {
+        let table = table(seed);
+        let both = OnTable::new(&table, None);
+        let (_, size) = both.size();
+        let size = size as usize;
+        for room in size.saturating_sub(30)..=size + 30 {
+            tally.add(both.write(room));
+        }
+    }
+    tally.close(10_000, &[0, 18], 5_000);
+}
+
+/// "a book read and written again has the same bytes"
+#[test]
+fn books_rewritten() {
+    let mut tally = Tally::new("books read and written again");
+    let mut table = [0; border::TABLE_BYTES];
+    for seed in 0..BOOKS {
+        for book in [book(seed), torn_book(seed)] {
+            let given = border::number_and_place(border::read(&book, &mut table));
+            tally.add(given);
+            if given.0 != 0 {
+                continue;
+            }
+            let (mut out, mut length) = (vec![0xA5; book.len()], 0);
+            assert_eq!(border::write(&table, &mut out, &mut length), 0);
+            assert_eq!(length as usize, book.len());
+            assert_eq!(out, book, "the book of seed {seed}");
+        }
+    }
+    tally.close(100_000, &[0], 45_000);
 }
 
 /// Each into a buffer that fits, a longer one and two shorter ones.

@@ -1,6 +1,6 @@
 -- The members below i have been added; each takes at most 11 bytes.
 use mathlib.Core.Path.{_≡_, refl, sym, ap, _∙_}
-use mathlib.Core.Bool.{Bool, cond}
+use mathlib.Core.Bool.{Bool, true, false, cond}
 use mathlib.Core.List.{List, [], _++_}
 use mathlib.Core.Logic.{⊎-elim}
 use Prim.Native.Nat.{ℕ, _+_, _-_, _*_, _≤_}
@@ -18,10 +18,11 @@ use Rattle.lines.proofs.text.members.Tie as tie
 abbrev here : ℕ → ℕ → List ℕ
 here m i = cond (has m i) (spaced i) []
 
-next : (m i : ℕ) {t : Text} {r : Text} → Added t (joined i (here m)) (11 * i) r → {bs : List ℕ} → here m i ≡ bs
-    → {s : Text} → Added r bs 11 s → Added t (joined (i + 1) (here m)) (11 * (i + 1)) s
-next m i h e g =
-    added-as (added-on h g) (ap (λ (x : List ℕ). joined i (here m) ++ x) (sym e) ∙ sym (joined-more i (here m))) (omega arith)
+next : (m i : ℕ) {t r : Text} → Added t (joined i (here m)) (11 * i) r → (b : Bool) → has m i ≡ b → {s : Text}
+    → Added r (cond b (spaced i) []) 11 s → Added t (joined (i + 1) (here m)) (11 * (i + 1)) s
+next m i h b e g =
+    let added = ap (λ (x : Bool). joined i (here m) ++ cond x (spaced i) []) (sym e) in
+    added-as (added-on h g) (added ∙ sym (joined-more i (here m))) (omega arith)
 
 abbrev Inv-loop : tie.InvT-loop
 Inv-loop m r₀ i₀ r i = (i ≤ 32) × Room r₀ 352 × Added r₀ (joined i (here m)) (11 * i) r
@@ -56,11 +57,10 @@ loop-again c =
       omega arith,
       at .inv .1,
       ⊎-elim
-          (λ w. rw (w .2) (next m (at .i) (at .inv .2) (ap (λ (b : Bool). cond b (spaced (at .i)) []) (sym told ∙ w .0 .taken)) (w .1 .ensures)))
+          (λ w. rw (w .2) (next m (at .i) (at .inv .2) true (sym told ∙ w .0 .taken) (w .1 .ensures)))
           (λ w.
           rw (w .1)
-          (next m (at .i) (at .inv .2) (ap (λ (b : Bool). cond b (spaced (at .i)) []) (sym told ∙ w .0 .left))
-          (added-as (added-none (at .r)) refl (omega arith))))
+          (next m (at .i) (at .inv .2) false (sym told ∙ w .0 .left) (added-as (added-none (at .r)) refl (omega arith))))
           (c .if1 .came),
     )
 

@@ -1,0 +1,98 @@
+-- No record passed has a bit beyond the row, so its mask is small.
+use mathlib.Core.Path.{_≡_, sym, ap, _∙_}
+use mathlib.Core.Bool.{false}
+use mathlib.Core.List.{List}
+use Prim.Native.Nat.{ℕ, _^_, _≤_, _<_, _-_}
+use native.Mathlib.Omega.{arith}
+use lib.ListN.{getD}
+use borrow.Author.Needs.{needs}
+use borrow.Author.Count.{below-more}
+use Rattle.mask.specs.Mask.{beyond}
+use Rattle.mask.specs.MaskLaws.{not-beyond}
+use Rattle.mask.specs.Loops.{Passed, passed-none, passed-more, passed-here, passed-all}
+use Rattle.editor.specs.Rows.{firstBeyond}
+use Rattle.editor.proofs.checks.first_beyond.Statement.{statement}
+use Rattle.editor.proofs.checks.first_beyond.Tie as tie
+
+-- the records before i name records of the row only
+record Inside (precedes : List ℕ) (n i : ℕ) : Type 0 where
+  passed : Passed (λ x. beyond (getD precedes x 0) n) i
+  named : (x : ℕ) → x < i → getD precedes x 0 < 2 ^ n
+
+abbrev Inv-loop : tie.InvT-loop
+Inv-loop n precedes i₀ i = (i ≤ n) × (n ≤ 32) × Inside precedes n i
+
+abbrev μ-loop : tie.MeasureT-loop
+μ-loop n precedes i₀ i = n - i
+
+loop-holds : tie.Need-loop-holds Inv-loop μ-loop
+loop-holds c = (search needs, c .before .pre, record { passed = passed-none; named = λ x l. absurd (omega (arith, l)) })
+
+mul-bits : tie.Need-mul-bits Inv-loop μ-loop
+mul-bits c = search needs
+
+array-read-bits : tie.Need-array-read-bits Inv-loop μ-loop
+array-read-bits c = search needs
+
+bits-requires : tie.Need-bits-requires Inv-loop μ-loop
+bits-requires c κs = search needs
+
+beyond-requires : tie.Need-beyond-requires Inv-loop μ-loop
+beyond-requires c κs = search needs
+
+returns : tie.Need-returns Inv-loop μ-loop
+unfolding firstBeyond
+returns c =
+    let m = c .before .before .before .before .before .before .args .m in
+    let at = c .before .before .before .before .loop in
+    let e : c .before .before .bits .result ≡ getD (m .precedes) (at .i) 0 = c .before .before .bits .ensures .0 in
+    record {
+      is = passed-here (at .inv .2 .passed) (omega arith)
+          (ap (λ (x : ℕ). beyond x (m .n)) (sym e) ∙ sym (c .before .beyond .ensures) ∙ c .if1 .taken);
+      named = at .inv .2 .named;
+    }
+
+add-i : tie.Need-add-i Inv-loop μ-loop
+add-i c = search needs
+
+loop-less : tie.Need-loop-less Inv-loop μ-loop
+loop-less c = search needs
+
+loop-again : tie.Need-loop-again Inv-loop μ-loop
+loop-again c =
+    let m = c .before .before .before .before .before .before .args .m in
+    let at = c .before .before .before .before .loop in
+    let e : c .before .before .bits .result ≡ getD (m .precedes) (at .i) 0 = c .before .before .bits .ensures .0 in
+    let clean : beyond (getD (m .precedes) (at .i) 0) (m .n) ≡ false =
+    ap (λ (x : ℕ). beyond x (m .n)) (sym e) ∙ sym (c .before .beyond .ensures) ∙ c .if1 .left in (
+      search needs,
+      at .inv .1,
+      record {
+        passed = passed-more (at .inv .2 .passed) clean;
+        named = below-more (λ (x : ℕ). getD (m .precedes) x 0 < 2 ^ m .n) (at .i) (at .inv .2 .named)
+            (not-beyond (getD (m .precedes) (at .i) 0) (m .n) (c .before .before .bits .ensures .1) clean);
+      },
+    )
+
+returns-2 : tie.Need-returns-2 Inv-loop μ-loop
+unfolding firstBeyond
+returns-2 c =
+    let at = c .before .loop in
+    record { is = passed-all (at .inv .2 .passed) (omega arith); named = λ x l. at .inv .2 .named x (omega arith) }
+
+pub first-beyond-spec : {M : Type 1} → statement M
+first-beyond-spec =
+    tie.close
+    (tie.spec
+    Inv-loop
+    μ-loop
+    loop-holds
+    mul-bits
+    array-read-bits
+    bits-requires
+    beyond-requires
+    returns
+    add-i
+    loop-less
+    loop-again
+    returns-2)

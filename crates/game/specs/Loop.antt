@@ -1,0 +1,13 @@
+-- The game loop: what the next rule to step says of the run that is left. Assumes nothing.
+use mathlib.Core.Path.{_≡_}
+use Prim.Native.Nat.{ℕ, _-_, _≤_, _<_}
+use Rattle.book.specs.declared.Table.{Table}
+use Rattle.machine.specs.declared.State.{State}
+use Rattle.machine.specs.Step.{stepOf}
+use Rattle.machine.specs.Run.{later, runOf}
+
+-- 32 or more: the run is over; a rule: the run goes on after a step on it, with one less of the budget
+pub record Due (t : Table) (s : State) (left r : ℕ) : Type 0 where
+  pub over : 32 ≤ r → runOf t s left ≡ runOf t s 0
+  pub some-left : r < 32 → 0 < left
+  pub more : r < 32 → runOf t s left ≡ later 1 (runOf t (stepOf t s r .state) (left - 1))
