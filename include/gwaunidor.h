@@ -59,6 +59,9 @@ extern "C" {
  */
 #define GWAUNIDOR_STATE_BYTES 264
 
+/* A record of the editor, in bytes: four masks. */
+#define GWAUNIDOR_RECORD_BYTES 16
+
 /* A buffer of so many bytes is long enough for a book's lines. */
 #define GWAUNIDOR_LINES_BYTES 512
 
@@ -203,6 +206,21 @@ uint32_t gwaunidor_size(const uint8_t *table, uint32_t *size);
  */
 uint32_t gwaunidor_lines(const uint8_t *book, size_t length, uint8_t *out,
                          size_t out_len, uint32_t *written);
+
+/*
+ * The report on a row of the editor's records.
+ *
+ * rows    `length` bytes, read only: GWAUNIDOR_RECORD_BYTES for each record, the
+ *         masks watch, reads, writes and precedes of 4 bytes each. Any bytes;
+ *         those after the last whole record are not looked at.
+ * out     GWAUNIDOR_REPORT_BYTES, all of them written. A refused report has
+ *         zeros from byte 2 on.
+ *
+ * Gives 0, cleared or not, or refuses by 3 (more than 32 records), by 6 (a
+ * precedes bit beyond the row; the place is the record's number) or by 10. All
+ * 32 bits of watch, reads and writes are taken as cells.
+ */
+uint32_t gwaunidor_rows(const uint8_t *rows, size_t length, uint8_t *out);
 
 #ifdef __cplusplus
 }

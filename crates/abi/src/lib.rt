@@ -13,6 +13,9 @@ ghost use Rattle.abi.specs.Analysed.{ReportCrosses, BoundCrosses};
 ghost use Rattle.abi.specs.Moves.{MovedTo, RanTo};
 ghost use Rattle.abi.specs.Writes.{WroteTo, SizedTo};
 ghost use Rattle.abi.specs.Printed.{PrintedTo};
+ghost use Rattle.editor.specs.Rows.{rowMasks};
+ghost use Rattle.editor.specs.Bytes.{rowsIn};
+ghost use Rattle.abi.specs.Rowed.{RowsCross};
 use book::Answer;
 use machine::Moved;
 
@@ -184,5 +187,18 @@ pub extern "C" fn gwaunidor_lines(book: &[u8], out: &mut [u8], written: &mut u32
     code(Answer {
         number: told.number,
         place: told.place,
+    })
+}
+
+// The report on the editor's row of records.
+#[no_mangle]
+pub extern "C" fn gwaunidor_rows(rows: &[u8], out: &mut [u8; 512]) -> u32
+    ensures { λ r. ⌜ RowsCross (rowMasks (rowsIn (now (rows .entry)))) (now (out .exit)) r ⌝ }
+{
+    let row = editor::report_of_bytes(rows);
+    layouts::store_report(row, out);
+    code(Answer {
+        number: row.number,
+        place: row.place,
     })
 }

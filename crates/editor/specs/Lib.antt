@@ -4,3 +4,4 @@ pub mod Copying
 pub mod RowsLaws
 pub mod CopyingLaws
 pub mod Table
+pub mod Bytes

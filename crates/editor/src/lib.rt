@@ -3,6 +3,9 @@ ghost use mathlib.Core.Path.{_≡_};
 ghost use Rattle.analysis.specs.Says.{refusedReport};
 ghost use Rattle.editor.specs.Rows.{rowMasks, Padded, RowsSay};
 ghost use Rattle.editor.specs.Copying.{noRows, withRow};
+ghost use Rattle.editor.specs.Bytes.{recordIn, rowsIn};
+ghost use Prim.Native.Nat.{_+_, _*_, _≤_};
+ghost use lib.ListN.{length};
 
 mod checks;
 
@@ -86,6 +89,35 @@ pub fn report(rows: &[Record]) -> Report
     while i < rows.len() {
         m = with_row(m, i, rows[i]);
         i += 1;
+    }
+    analysed(m)
+}
+
+fn record_at(s: &[u8], i: usize) -> Record
+    requires { ⌜ 16 * i + 16 ≤ length (now s) ⌝ }
+    ensures { λ r. ⌜ r ≡ recordIn (now (s .entry)) i ⌝ }
+{
+    let at = 16 * i;
+    let watch = endian::u32_at(s, at);
+    let reads = endian::u32_at(s, at + 4);
+    let writes = endian::u32_at(s, at + 8);
+    let precedes = endian::u32_at(s, at + 12);
+    Record {
+        watch: watch,
+        reads: reads,
+        writes: writes,
+        precedes: precedes,
+    }
+}
+
+// The report of a row that crosses as bytes, 16 for each record.
+pub fn report_of_bytes(s: &[u8]) -> Report
+    ensures { λ r. ⌜ RowsSay (rowMasks (rowsIn (now (s .entry)))) r ⌝ }
+{
+    let n = s.len() / 16;
+    let mut m = none();
+    for i in 0..n {
+        m = with_row(m, i, record_at(s, i));
     }
     analysed(m)
 }

@@ -55,6 +55,7 @@ mod library {
             out_len: usize,
             written: &mut u32,
         ) -> u32;
+        pub fn gwaunidor_rows(rows: *const u8, length: usize, out: &mut ReportBytes) -> u32;
     }
 }
 
@@ -144,4 +145,11 @@ pub fn lines(book: &[u8], out: &mut [u8], written: &mut u32) -> u32 {
             written,
         )
     }
+}
+
+/// The report on a row of the editor's records.
+pub fn rows(rows: &[u8], out: &mut ReportBytes) -> u32 {
+    // SAFETY: the pointer and the length are those of a slice, which the call
+    // only reads; the report is lent for it alone.
+    unsafe { library::gwaunidor_rows(rows.as_ptr(), rows.len(), out) }
 }

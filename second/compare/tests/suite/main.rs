@@ -9,6 +9,7 @@ mod full;
 mod lengths;
 mod lines;
 mod machine;
+mod rows;
 mod sums;
 mod tables;
 mod tally;
