@@ -29,9 +29,20 @@ fn main() {
     }
     line("report 32 rules sparse", report(&chain(), 1));
     line("report 32 rules dense", report(&dense(), 1));
-    let (proved, second) = run(&chain());
-    line("run of 31 steps", (proved, second));
-    line("run a step", (proved / 31.0, second / 31.0));
+    line("rewrite full", rewrite(&full_table()));
+    line("rewrite night", rewrite(&night()));
+    for (name, table, waiting, steps) in [
+        ("chain", chain(), 1, 31),
+        ("sparse", sparse(), u32::MAX, 32),
+    ] {
+        let (proved, second) = run(&table, waiting, steps);
+        let each = f64::from(steps);
+        line(&format!("run {name}, {steps} steps"), (proved, second));
+        line(
+            &format!("run {name}, a step"),
+            (proved / each, second / each),
+        );
+    }
 }
 
 /// 32 rules: each of the first 31 watches a cell and adds to the next one, so
@@ -45,6 +56,13 @@ fn chain() -> Table {
         }
     };
     let rules: Vec<Rule> = (0..32).map(link).collect();
+    table(32, &rules)
+}
+
+/// 32 rules that wake none: each adds to a cell that nobody watches.
+fn sparse() -> Table {
+    let alone = |i: u8| rule(&format!("alone-{i}"), &[], &[], &[add(i, i, 1)]);
+    let rules: Vec<Rule> = (0..32).map(alone).collect();
     table(32, &rules)
 }
 
@@ -92,22 +110,40 @@ fn report(table: &Table, calls: usize) -> (f64, f64) {
     )
 }
 
-/// From rule 0 waiting until none waits, 31 steps.
-fn run(table: &Table) -> (f64, f64) {
+/// From these rules waiting until none waits, in so many steps.
+fn run(table: &Table, waiting: u32, budget: u32) -> (f64, f64) {
     let bytes = bytes_of(table);
     let start = State {
-        waiting: 1,
+        waiting,
         ..State::default()
     };
     let lent = state_bytes(&start);
     let mut steps = 0;
     let times = medians(
         1,
-        || border::run(black_box(&bytes), &mut lent.clone(), 31, &mut steps),
-        || u32::from(second::machine::run(table, black_box(&start), 31).0),
+        || border::run(black_box(&bytes), &mut lent.clone(), budget, &mut steps),
+        || u32::from(second::machine::run(table, black_box(&start), budget).0),
     );
-    assert_eq!(steps, 31);
+    assert_eq!(steps, budget);
     times
+}
+
+/// A book read and written again.
+fn rewrite(table: &Table) -> (f64, f64) {
+    let book = second::write::bytes_of(table);
+    let (mut bytes, mut out, mut written) = ([0; TABLE_BYTES], book.clone(), 0);
+    let mut theirs = book.clone();
+    medians(
+        1,
+        || {
+            border::read(black_box(&book), &mut bytes)
+                + border::write(black_box(&bytes), &mut out, &mut written)
+        },
+        || {
+            let (number, _, table) = second::read::read(black_box(&book));
+            u32::from(number + second::write::write(black_box(&table), &mut theirs).0)
+        },
+    )
 }
 
 fn both(book: &[u8], calls: usize) -> (f64, f64) {

@@ -40,8 +40,15 @@ fn same_lines(book: &[u8], room: usize) -> (u32, u32) {
         length = told.len();
     }
     assert_eq!(out.bytes(), after, "the lines of {book:02x?}");
-    assert!(out.guards_are_whole(), "written beside the lines of {book:02x?}");
-    assert_eq!(written.number() as usize, length, "the length for {book:02x?}");
+    assert!(
+        out.guards_are_whole(),
+        "written beside the lines of {book:02x?}"
+    );
+    assert_eq!(
+        written.number() as usize,
+        length,
+        "the length for {book:02x?}"
+    );
     let given = number_and_place(code);
     assert_eq!(given, (number.into(), place.into()), "{book:02x?}");
     given

@@ -45,7 +45,10 @@ fn same_report(row: &[Record], cut: usize) -> (u32, u32) {
     let memory = out.bytes_mut().try_into().expect("a report's bytes");
     let code = rows(lent.bytes(), memory);
     assert_eq!(out.bytes(), report_bytes(&told), "{row:?}");
-    assert!(out.guards_are_whole(), "written beside the report of {row:?}");
+    assert!(
+        out.guards_are_whole(),
+        "written beside the report of {row:?}"
+    );
     let given = number_and_place(code);
     assert_eq!(given, (told.number.into(), told.place.into()), "{row:?}");
     given
