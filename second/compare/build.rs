@@ -1,6 +1,6 @@
-//! Links the proved library, libabi.a, and tells where `answers` is: in the
-//! folder that GWAUNIDOR_LIB_DIR names, else in target/border at the
-//! repository's root, where the script `archive` leaves both.
+//! Links the proved library, libabi.a, and tells where `answers` and `watched`
+//! are: in the folder that GWAUNIDOR_LIB_DIR names, else in target/border at the
+//! repository's root, where the script `archive` leaves them.
 
 use std::env;
 use std::path::PathBuf;
@@ -21,4 +21,6 @@ fn main() {
     println!("cargo:rustc-link-lib=static=abi");
     let answers = folder.join("answers");
     println!("cargo:rustc-env=GWAUNIDOR_ANSWERS={}", answers.display());
+    let watched = folder.join("watched");
+    println!("cargo:rustc-env=GWAUNIDOR_WATCHED={}", watched.display());
 }

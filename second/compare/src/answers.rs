@@ -5,7 +5,8 @@ use crate::border::{AmountsBytes, TableBytes, AMOUNTS_BYTES};
 use std::io::{BufReader, BufWriter, Read, Write};
 use std::process::{Child, ChildStdin, ChildStdout, Command, Stdio};
 
-const ENDED: &str = "the program answers ended: a guard byte changed, or it failed";
+const ENDED: &str =
+    "the program answers ended: a guard byte changed, valgrind found an error, or it failed";
 
 /// Another call on a table: its letter, and what it takes beside the memory
 /// that it writes.
@@ -36,8 +37,18 @@ pub struct Answers {
 }
 
 impl Answers {
+    /// Over the archive that is delivered.
     pub fn start() -> Answers {
-        let path = env!("GWAUNIDOR_ANSWERS");
+        Answers::of(env!("GWAUNIDOR_ANSWERS"))
+    }
+
+    /// Over the library for the processor at hand, under valgrind, which ends
+    /// the program at the first error.
+    pub fn watched() -> Answers {
+        Answers::of(env!("GWAUNIDOR_WATCHED"))
+    }
+
+    fn of(path: &str) -> Answers {
         let mut program = Command::new(path)
             .stdin(Stdio::piped())
             .stdout(Stdio::piped())

@@ -30,9 +30,12 @@ impl Desk {
 
     /// Asks the archive that is delivered, from C.
     pub fn delivered() -> Desk {
-        let answers = Some(Answers::start());
+        Desk::asking(Answers::start())
+    }
+
+    pub fn asking(answers: Answers) -> Desk {
         Desk {
-            answers,
+            answers: Some(answers),
             ..Desk::linked()
         }
     }

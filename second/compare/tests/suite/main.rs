@@ -13,4 +13,5 @@ mod rows;
 mod sums;
 mod tables;
 mod tally;
+mod watched;
 mod writing;
