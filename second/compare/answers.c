@@ -8,7 +8,10 @@
  * number, 4 bytes, and the bytes of the table as the call left it. After the
  * letter of another call on a table they are the table, the memory that the call
  * writes, 256 bytes of amounts, a number of 4 bytes and a value of 8; the answer
- * is the returned number, the number behind the pointer, and that memory.
+ * is the returned number, the number behind the pointer, and that memory. After
+ * 'l' for lines or 'e' for the editor's row they are the length of the memory
+ * that the call writes, 4 bytes, and the book or the row, and the answer is the
+ * same.
  */
 #include "gwaunidor.h"
 
@@ -23,6 +26,7 @@ extern long write(int file, const void *bytes, size_t count);
 #define REST_BYTES (GWAUNIDOR_AMOUNTS_BYTES + 4 + 8)
 
 static uint8_t given[MOST_BYTES];
+static uint8_t kept[MOST_BYTES];
 static uint8_t lent[GUARD + GWAUNIDOR_TABLE_BYTES + GUARD];
 static uint8_t *const table = lent + GUARD;
 static uint8_t lent_out[GUARD + MOST_BYTES + GUARD];
@@ -144,6 +148,23 @@ static int answer_on_table(uint8_t kind, size_t length) {
         && guards_are_whole(out, size) && give_number(code) && give_number(word) && give(out, size);
 }
 
+/* Lines or the report on a row, and its answer; what was given is as it was. */
+static int answer_with_bytes(uint8_t kind, size_t length) {
+    size_t size = number_at(given);
+    uint32_t word = 0xA5A5A5A5u, code;
+    if (size > (kind == 'l' ? MOST_BYTES : GWAUNIDOR_REPORT_BYTES))
+        return 0;
+    fill(lent_out, sizeof lent_out, GUARD_BYTE);
+    fill(out, size, OLD_BYTE);
+    copy(kept, given, length);
+    if (kind == 'l')
+        code = gwaunidor_lines(given + 4, length - 4, out, size, &word);
+    else
+        code = gwaunidor_rows(given + 4, length - 4, out);
+    return same(given, kept, length) && guards_are_whole(out, size) && give_number(code) && give_number(word)
+        && give(out, size);
+}
+
 /* One call and its answer; 0 where the input has ended or the call is none. */
 static int answer(void) {
     uint8_t head[5];
@@ -156,6 +177,8 @@ static int answer(void) {
     fill(lent, sizeof lent, GUARD_BYTE);
     if (head[0] == 'r' || (head[0] == 'c' && length == GWAUNIDOR_TABLE_BYTES))
         return answer_with_table(head[0], length);
+    if ((head[0] == 'l' || head[0] == 'e') && length >= 4)
+        return answer_with_bytes(head[0], length);
     if (length < GWAUNIDOR_TABLE_BYTES + REST_BYTES)
         return 0;
     return answer_on_table(head[0], length);

@@ -1,7 +1,7 @@
 //! The program `answers`, made of answers.c: the same calls, made from C on the
 //! archive that is delivered.
 
-use crate::border::{AmountsBytes, TableBytes, AMOUNTS_BYTES};
+use crate::border::{AmountsBytes, ReportBytes, TableBytes, AMOUNTS_BYTES};
 use std::io::{BufReader, BufWriter, Read, Write};
 use std::process::{Child, ChildStdin, ChildStdout, Command, Stdio};
 
@@ -81,6 +81,25 @@ impl Answers {
         let number = asked.number.to_le_bytes();
         let value = asked.value.to_le_bytes();
         self.ask(asked.kind, &[table, out, &asked.amounts, &number, &value]);
+        let code = self.hear_number();
+        *word = self.hear_number();
+        self.hear(out);
+        code
+    }
+
+    /// The report program's lines for a book, into bytes that are all 0xA5.
+    pub fn lines(&mut self, book: &[u8], out: &mut [u8], written: &mut u32) -> u32 {
+        self.into_bytes(b'l', book, out, written)
+    }
+
+    /// The report on a row of the editor's records.
+    pub fn rows(&mut self, rows: &[u8], out: &mut ReportBytes) -> u32 {
+        self.into_bytes(b'e', rows, out, &mut 0)
+    }
+
+    fn into_bytes(&mut self, kind: u8, bytes: &[u8], out: &mut [u8], word: &mut u32) -> u32 {
+        let length = (out.len() as u32).to_le_bytes();
+        self.ask(kind, &[&length, bytes]);
         let code = self.hear_number();
         *word = self.hear_number();
         self.hear(out);

@@ -4,7 +4,9 @@
 use crate::analysis::{judge_any, judge_small, Judged, REFUSALS};
 use crate::books::compare_books;
 use crate::changes::compare_changes;
+use crate::lines::compare_lines;
 use crate::machine::{compare_fresh, compare_postings, compare_runs, compare_steps};
+use crate::rows::compare_rows;
 use crate::tables::{compare_tables, NUMBERS};
 use crate::tally::Tally;
 use crate::writing::compare_writes;
@@ -59,4 +61,15 @@ fn writes_from_c() {
     compare_writes(Some(&answers), &mut sizes, &mut tally, 250);
     sizes.close(250, &[0, 7], 1);
     tally.close(1_000, &[0, 7, 18], 5);
+}
+
+#[test]
+fn lines_and_rows_from_c() {
+    let answers = RefCell::new(Answers::start());
+    let mut tally = Tally::new("lines, from C on the archive delivered");
+    compare_lines(Some(&answers), &mut tally, 300);
+    tally.close(1_200, &[0, 1, 2, 3, 4, 5, 6, 7], 1);
+    let mut tally = Tally::new("the editor's rows, from C on the archive delivered");
+    compare_rows(Some(&answers), &mut tally, 500);
+    tally.close(1_500, &[0, 3, 6, 10], 10);
 }

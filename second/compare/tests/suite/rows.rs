@@ -2,22 +2,29 @@
 //! record.
 
 use crate::tally::Tally;
+use compare::answers::Answers;
 use compare::border::{number_and_place, rows, REPORT_BYTES};
 use compare::layout::report_bytes;
 use compare::lent::Lent;
 use second::analysis::{records, report_of_records, Record};
 use second::generate::{records as generated, table, Random};
+use std::cell::RefCell;
 
-const ROWS: u64 = 20_000;
+const ROWS: u64 = 10_000;
 
 #[test]
 fn rows_of_the_generator() {
     let mut tally = Tally::new("the editor's rows");
-    for seed in 0..ROWS {
+    compare_rows(None, &mut tally, ROWS);
+    tally.close(30_000, &[0, 3, 6, 10], 100);
+}
+
+pub fn compare_rows(answers: Option<&RefCell<Answers>>, tally: &mut Tally, rows: u64) {
+    for seed in 0..rows {
         let random = &mut Random::new(seed);
         let row = generated(seed);
-        tally.add(same_report(&row, random.below(16)));
-        tally.add(same_report(&records(&table(seed)), 0));
+        tally.add(same_report(answers, &row, random.below(16)));
+        tally.add(same_report(answers, &records(&table(seed)), 0));
         let mut long = row;
         while long.len() < 32 {
             long.push(Record::default());
@@ -26,13 +33,12 @@ fn rows_of_the_generator() {
         if random.chance(30) {
             long.extend([Record::default(); 2]);
         }
-        tally.add(same_report(&long, 0));
+        tally.add(same_report(answers, &long, 0));
     }
-    tally.close(60_000, &[0, 3, 6, 10], 100);
 }
 
 /// The report and what is returned, with so many bytes of one more record.
-fn same_report(row: &[Record], cut: usize) -> (u32, u32) {
+fn same_report(answers: Option<&RefCell<Answers>>, row: &[Record], cut: usize) -> (u32, u32) {
     let told = report_of_records(row);
     let mut bytes: Vec<u8> = row
         .iter()
@@ -43,7 +49,10 @@ fn same_report(row: &[Record], cut: usize) -> (u32, u32) {
     let lent = Lent::new(&bytes);
     let mut out = Lent::new(&[0xA5; REPORT_BYTES]);
     let memory = out.bytes_mut().try_into().expect("a report's bytes");
-    let code = rows(lent.bytes(), memory);
+    let code = match answers {
+        None => rows(lent.bytes(), memory),
+        Some(c) => c.borrow_mut().rows(lent.bytes(), memory),
+    };
     assert_eq!(out.bytes(), report_bytes(&told), "{row:?}");
     assert!(
         out.guards_are_whole(),

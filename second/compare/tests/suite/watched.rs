@@ -3,7 +3,9 @@
 
 use crate::analysis::{judge_any, judge_small, Judged, REFUSALS};
 use crate::books::compare_books;
+use crate::lines::compare_lines;
 use crate::machine::{compare_fresh, compare_postings, compare_runs, compare_steps};
+use crate::rows::compare_rows;
 use crate::tables::compare_tables;
 use crate::tally::Tally;
 use crate::writing::compare_writes;
@@ -41,4 +43,13 @@ fn states_and_writes_under_valgrind() {
     compare_writes(Some(&answers), &mut sizes, &mut tally, 100);
     sizes.close(100, &[0], 1);
     tally.close(1_650, &[0, 11, 13, 18], 5);
+}
+
+#[test]
+fn lines_and_rows_under_valgrind() {
+    let answers = RefCell::new(Answers::watched());
+    let mut tally = Tally::new("lines and the editor's rows, under valgrind");
+    compare_lines(Some(&answers), &mut tally, 150);
+    compare_rows(Some(&answers), &mut tally, 200);
+    tally.close(1_200, &[0, 1, 2, 3, 4, 6, 10], 1);
 }

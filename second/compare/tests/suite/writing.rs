@@ -8,17 +8,17 @@ use compare::tables::OnTable;
 use second::generate::{book, spoil, table, torn_book, Random};
 use std::cell::RefCell;
 
-const TABLES: u64 = 100_000;
+const TABLES: u64 = 40_000;
 const AROUND: u64 = 300;
-const BOOKS: u64 = 50_000;
+const BOOKS: u64 = 25_000;
 const NUMBERS: [usize; 8] = [0, 3, 5, 6, 7, 8, 9, 10];
 
 #[test]
 fn tables_of_the_generator() {
     let (mut sizes, mut tally) = (Tally::new("sizes"), Tally::new("writes"));
     compare_writes(None, &mut sizes, &mut tally, TABLES);
-    sizes.close(100_000, &NUMBERS, 50);
-    tally.close(400_000, &NUMBERS, 50);
+    sizes.close(40_000, &NUMBERS, 20);
+    tally.close(160_000, &NUMBERS, 50);
 }
 
 /// "a done write leaves the bytes after the book untouched"
@@ -55,7 +55,7 @@ fn books_rewritten() {
             assert_eq!(out, book, "the book of seed {seed}");
         }
     }
-    tally.close(100_000, &[0], 45_000);
+    tally.close(50_000, &[0], 22_000);
 }
 
 /// Each into a buffer that fits, a longer one and two shorter ones.
