@@ -5,4 +5,3 @@ pub mod Whole
 pub mod AmountsLaws
 pub mod Body
 pub mod More
-pub mod Cases

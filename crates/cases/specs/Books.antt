@@ -1,6 +1,7 @@
 -- The books that the cases speak of, byte by byte, as they stand in books/. Assumes nothing.
-use mathlib.Core.List.{List, [], _∷_}
+use mathlib.Core.List.{List, [], _∷_, _++_}
 use Prim.Native.Nat.{ℕ}
+use lib.ListN.{replicate}
 
 -- "bytes 01 00 01 00: no rules"
 abbrev pub empty : List ℕ
@@ -18,6 +19,13 @@ abbrev pub circle : List ℕ
 circle =
     1 ∷ 1 ∷ 1 ∷ 0 ∷ 8 ∷ 0 ∷ 37 ∷ 0 ∷ 1 ∷ 0 ∷ 0 ∷ 0 ∷ 0 ∷ 0 ∷ 0 ∷ 0 ∷ 0 ∷ 1 ∷ 5 ∷ 0 ∷ 0 ∷ 1 ∷ 0 ∷ 0 ∷ 1 ∷ 0 ∷ 0
     ∷ 0 ∷ 0 ∷ 0 ∷ 0 ∷ 0 ∷ 0 ∷ 0 ∷ 0 ∷ 0 ∷ 0 ∷ 0 ∷ 0 ∷ 0 ∷ 97 ∷ 103 ∷ 97 ∷ 105 ∷ 110 ∷ []
+
+-- "1,000,000,000,000 + 0 is stored; + 1 is a fault mark": one rule adds the constant of these eight bytes to cell 0
+abbrev pub adding : List ℕ → List ℕ
+adding k =
+    (1 ∷ 1 ∷ 1 ∷ 0 ∷ 8 ∷ 0 ∷ 33 ∷ 0 ∷ 0 ∷ 0 ∷ 0 ∷ 0 ∷ 0 ∷ 0 ∷ 0 ∷ 0 ∷ 0 ∷ 1 ∷ 1 ∷ 0 ∷ 0 ∷ 1 ∷ 0 ∷ 0 ∷ []) ++ k
+    ++ replicate 8 0
+    ++ (97 ∷ [])
 
 -- "one rule sets cell 0 to cell 1 and cell 1 to cell 0 (each + 0)"
 abbrev pub swap : List ℕ

@@ -29,10 +29,9 @@ use Rattle.machine.specs.declared.Moved.{Moved}
 use Rattle.machine.specs.State.{waits}
 use Rattle.machine.specs.Step.{stepOf, moved}
 use Rattle.machine.specs.StepLaws.{Stepping, step-done}
-use Rattle.machine.specs.Cases.{night, state}
-use Rattle.machine.specs.Night.{evening, twins, both, other, facts}
 use Rattle.confluence.specs.Permitted.{after, Permitted, Still, Held}
 use Rattle.confluence.specs.Demand.{OneEnd, demand-3, cleared-by}
+use Rattle.confluence.specs.Worked.{night, state, evening, twins, both, other, facts}
 
 -- ---- a done step in an order
 

@@ -1,5 +1,5 @@
--- The report: `Index`, `Cleared`, `Report` and `Bound` have the definitions; `Compute` computes and `Cases` has worked
--- cases; the others are laws.
+-- The report: `Index`, `Cleared`, `Report` and `Bound` have the definitions; `Compute` computes; `Written` is for rules
+-- that are written out; the others are laws.
 pub mod Index
 pub mod IndexLaws
 pub mod Counts
@@ -16,4 +16,3 @@ pub mod BoundLaws
 pub mod Compute
 pub mod ComputeLaws
 pub mod Written
-pub mod Cases

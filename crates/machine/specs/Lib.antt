@@ -11,5 +11,3 @@ pub mod PostLaws
 pub mod ViewLaws
 pub mod EligibleLaws
 pub mod RunLaws
-pub mod Cases
-pub mod Night

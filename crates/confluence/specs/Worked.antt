@@ -1,25 +1,65 @@
 -- Two books computed for the account: the night book, and two rules that write one cell alike. Assumes nothing.
 use mathlib.Core.Path.{_≡_, refl}
-use mathlib.Core.List.{[], _∷_}
-use Prim.Native.Nat.{ℕ}
+use mathlib.Core.List.{List, [], _∷_, _++_}
+use Prim.Native.Nat.{ℕ, _-_}
 use lib.Dec.{lit<}
 use lib.ListN.{replicate}
-use lib.IntN.{pos}
+use lib.IntN.{ℤ, pos}
 use Rattle.mask.specs.Search as Search
 use Rattle.mask.specs.Mask as Mask
 use Rattle.graph.specs.Graph as Graph
-use Rattle.rule.specs.Empty.{noRule}
+use Rattle.rule.specs.declared.Assign.{Assign}
+use Rattle.rule.specs.declared.Rule.{Rule}
+use Rattle.rule.specs.Empty.{noTest, noAssign, noRule}
 use Rattle.rule.specs.Numbers as Numbers
 use Rattle.book.specs.declared.Table.{Table}
 use Rattle.book.specs.Table as Table
 use Rattle.book.specs.Check as Check
 use Rattle.amounts.specs.Amounts as Amounts
 use Rattle.machine.specs.declared.State.{State}
 use Rattle.machine.specs.State as State
 use Rattle.machine.specs.State.{Fits}
 use Rattle.machine.specs.Step as Step
 use Rattle.machine.specs.Step.{moved, stepOf}
-use Rattle.machine.specs.Cases.{plain, constant, night, state}
+
+-- an assignment to a cell: cell a + k; and k alone
+abbrev pub plus : ℕ → ℕ → ℤ → Assign
+plus target a k = record { target = target; operation = 1; a = a; b = 0; k = k; p = 0; q = 0 }
+
+abbrev pub constant : ℕ → ℕ → Assign
+constant target k = record { target = target; operation = 0; a = 0; b = 0; k = pos k; p = 0; q = 0 }
+
+-- a rule with no tests and a name of one letter
+abbrev pub plain : ℕ → ℕ → ℕ → List Assign → ℕ → Rule
+plain watch precedes a xs letter =
+    record {
+      watch = watch;
+      precedes = precedes;
+      t = 0;
+      a = a;
+      m = 1;
+      zero = 0;
+      tests = replicate 8 noTest;
+      assigns = xs ++ replicate (8 - a) noAssign;
+      name = letter ∷ replicate 15 0;
+    }
+
+-- "night book. Rule 0 watches cell 0, sets cell 1 to cell 0 + 1. Rule 1 watches cell 0, sets cell 2 to 9.
+-- Rule 2 watches cell 1, sets cell 2 to 7, goes before 0 and 1."
+abbrev pub night : Table
+night =
+    record {
+      n = 3;
+      k = 3;
+      rules =
+          plain 1 0 1 (plus 1 0 (pos 1) ∷ []) 97 ∷ plain 1 0 1 (constant 2 9 ∷ []) 98
+          ∷ plain 2 3 1 (constant 2 7 ∷ []) 99
+          ∷ replicate 29 noRule;
+    }
+
+-- the first three cells, who waits, the fault marks
+abbrev pub state : ℤ → ℤ → ℤ → ℕ → ℕ → State
+state a b c waiting faults = record { cells = a ∷ b ∷ c ∷ replicate 29 (pos 0); waiting = waiting; faults = faults }
 
 -- the night book after 5 is posted to cell 0: rules 0 and 1 wait
 abbrev pub evening : State
