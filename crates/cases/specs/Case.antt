@@ -3,8 +3,7 @@ use mathlib.Core.Path.{_≡_}
 use mathlib.Core.Bool.{Bool, true, false, _&&_, not}
 use mathlib.Core.List.{List, [], _∷_, _++_}
 use Prim.Native.Nat.{ℕ, _-_}
-use Prim.Native.Char.{code}
-use Prim.Native.String.{String, [] as end, _∷_ as _then_}
+use Prim.Native.String.{String}
 use lib.Dec.{eqb}
 use lib.IntN.{ℤ, pos}
 use lib.ListN.{length, replicate}
@@ -20,6 +19,7 @@ use Rattle.pairs.specs.Masks.{commute}
 use Rattle.judging.specs.declared.Bound.{Bound}
 use Rattle.analysis.specs.Masks.{masksOf}
 use Rattle.analysis.specs.Says.{BoundSays}
+use Rattle.lines.specs.Text.{letters}
 use Rattle.lines.specs.Lines.{TextOf}
 
 -- the amounts of the first cells, and 0 in the rest
@@ -31,11 +31,6 @@ state xs waiting faults = record { cells = cells xs; waiting = waiting; faults =
 
 abbrev pub tableOf : List ℕ → Table
 tableOf book = readOf book .table
-
--- the letters of a text, each by its ASCII code
-abbrev pub letters : String → List ℕ
-letters end = []
-letters (c then s) = code c ∷ letters s
 
 pub data Case : Type 0 where
   -- a book, the number and the place that reading it gives, and the numbers of rules and cells of its table

@@ -2,12 +2,19 @@
 use mathlib.Core.Bool.{Bool, true, false, cond}
 use mathlib.Core.List.{List, [], _∷_, _++_}
 use Prim.Native.Nat.{ℕ, zero, suc, _+_, _/_, _%_}
+use Prim.Native.Char.{code}
+use Prim.Native.String.{String, [] as end, _∷_ as _then_}
 use lib.Dec.{ltb, eqb}
 use Rattle.mask.specs.Mask.{has}
 use Rattle.endian.specs.Joined.{joined}
 use Rattle.book.specs.declared.Table.{Table}
 use Rattle.judging.specs.declared.Report.{Report}
 use Rattle.judging.specs.declared.Bound.{Bound}
+
+-- the letters of a text, each by its ASCII code
+abbrev pub letters : String → List ℕ
+letters end = []
+letters (c then s) = code c ∷ letters s
 
 -- a number in decimal, of at most f digits
 unfoldable pub digitsTo : ℕ → ℕ → List ℕ
@@ -23,7 +30,7 @@ unfoldable pub membersText : ℕ → List ℕ
 membersText m = joined 32 (λ i. cond (has m i) (spaced i) [])
 
 abbrev pub newline : List ℕ
-newline = 10 ∷ []
+newline = letters "\n"
 
 -- two numbers, each after one space
 unfoldable pub twoNumbers : ℕ → ℕ → List ℕ
@@ -35,30 +42,30 @@ numbered word a b = word ++ twoNumbers a b ++ newline
 
 -- "A refused book prints one line: `refused` number place."
 abbrev pub refusedLine : ℕ → ℕ → List ℕ
-refusedLine number place = numbered (114 ∷ 101 ∷ 102 ∷ 117 ∷ 115 ∷ 101 ∷ 100 ∷ []) number place
+refusedLine number place = numbered (letters "refused") number place
 
 -- "`book` n k"
 abbrev pub bookLine : ℕ → ℕ → List ℕ
-bookLine n k = numbered (98 ∷ 111 ∷ 111 ∷ 107 ∷ []) n k
+bookLine n k = numbered (letters "book") n k
 
 -- "`ends yes` and the step bound of all rules, or `ends no` and the faulty rule numbers upward"
 unfoldable pub endsLine : ℕ → ℕ → List ℕ
 endsLine faulty bound =
     cond (eqb faulty 0)
-    ((101 ∷ 110 ∷ 100 ∷ 115 ∷ 32 ∷ 121 ∷ 101 ∷ 115 ∷ []) ++ spaced bound ++ newline)
-    ((101 ∷ 110 ∷ 100 ∷ 115 ∷ 32 ∷ 110 ∷ 111 ∷ []) ++ membersText faulty ++ newline)
+    (letters "ends yes" ++ spaced bound ++ newline)
+    (letters "ends no" ++ membersText faulty ++ newline)
 
 -- "`pairs` and the failing count, and if not 0 the first pair and its two culprits"
 unfoldable pub pairsLine : Report → List ℕ
 pairsLine r =
-    let start = (112 ∷ 97 ∷ 105 ∷ 114 ∷ 115 ∷ []) ++ spaced (r .failing) in
+    let start = letters "pairs" ++ spaced (r .failing) in
     cond (eqb (r .failing) 0) (start ++ newline)
     (start ++ twoNumbers (r .first) (r .second) ++ twoNumbers (r .culprit) (r .other) ++ newline)
 
 -- "`cleared yes` or `cleared no`"
 unfoldable pub clearedLine : Bool → List ℕ
-clearedLine true = 99 ∷ 108 ∷ 101 ∷ 97 ∷ 114 ∷ 101 ∷ 100 ∷ 32 ∷ 121 ∷ 101 ∷ 115 ∷ newline
-clearedLine false = 99 ∷ 108 ∷ 101 ∷ 97 ∷ 114 ∷ 101 ∷ 100 ∷ 32 ∷ 110 ∷ 111 ∷ newline
+clearedLine true = letters "cleared yes\n"
+clearedLine false = letters "cleared no\n"
 
 -- "prints four lines"
 unfoldable pub fourLines : Table → Report → Bound → List ℕ
