@@ -4,4 +4,4 @@ pub mod Ready
 pub mod Whole
 pub mod AmountsLaws
 pub mod Body
-pub mod More
+pub mod ReadyLaws

@@ -15,8 +15,8 @@ use Rattle.judging.specs.Cleared.{Past, Orderly}
 use Rattle.analysis.specs.Masks.{masksOf}
 
 -- a row that is filled for n rules is 0 from n up
-past : (n : ℕ) (f : ℕ → ℕ) → n ≤ 32 → Past n (filled 32 0 f n)
-past n f few r l =
+pub filled-past : (n : ℕ) (f : ℕ → ℕ) → n ≤ 32 → Past n (filled 32 0 f n)
+filled-past n f few r l =
     ⊎-elim (getD-left 32 0 f n 0 r l)
     (λ m.
     List·getD-eq-default (filled 32 0 f n) 0 {n = r} (subst (λ (x : ℕ). x ≤ r) (sym (length-filled 32 0 f n few)) m))
@@ -30,8 +30,8 @@ masks-orderly t s h =
       few = few;
       named = rows;
       straight = λ r v. irreflexive t s r (leads-below (t .n) rows v) (before-iff t s h r r .1 v);
-      watch = past (t .n) _ few;
-      reads = past (t .n) _ few;
-      writes = past (t .n) _ few;
-      precedes = past (t .n) _ few;
+      watch = filled-past (t .n) _ few;
+      reads = filled-past (t .n) _ few;
+      writes = filled-past (t .n) _ few;
+      precedes = filled-past (t .n) _ few;
     }

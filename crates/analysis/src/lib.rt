@@ -1,6 +1,5 @@
 // The analysis of a table: whether it is cleared, which rules stand in the way, and the step bound of a set.
 ghost use mathlib.Core.Path.{_≡_};
-ghost use Prim.Native.Nat.{_^_, _<_};
 ghost use Rattle.book.specs.Check.{Sound};
 ghost use Rattle.analysis.specs.Masks.{Taken};
 ghost use Rattle.analysis.specs.Says.{refusedReport, ReportSays, BoundSays};
@@ -8,13 +7,6 @@ use book::Table;
 use judging::Bound;
 use judging::Report;
 use pairs::Masks;
-
-// A mask as it is; a mask has 32 bits.
-fn bits(x: u32) -> u32
-    ensures { λ r. ⌜ (r ≡ x) × (x < 2 ^ 32) ⌝ }
-{
-    x
-}
 
 // The four rows of masks, taken from the table once.
 fn masks(t: Table) -> Masks
@@ -32,7 +24,7 @@ fn masks(t: Table) -> Masks
         watch[i] = r.watch;
         reads[i] = uses::reads(r);
         writes[i] = uses::writes(r);
-        precedes[i] = bits(r.precedes);
+        precedes[i] = mask::bits(r.precedes);
     }
     Masks {
         n: n,
@@ -43,7 +35,8 @@ fn masks(t: Table) -> Masks
     }
 }
 
-fn no_report(number: u8, place: u8) -> Report
+// A refused report.
+pub fn no_report(number: u8, place: u8) -> Report
     ensures { λ r. ⌜ r ≡ refusedReport number place ⌝ }
 {
     Report {

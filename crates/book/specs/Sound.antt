@@ -5,7 +5,7 @@ use Prim.Native.Nat.{ℕ, _+_, _≤_, _<_}
 use native.Mathlib.Nat.{le-trans}
 use native.Mathlib.Omega.{arith}
 use lib.Dec.{ltb, leb, eqb}
-use borrow.Author.Tests.{ltb-true, ltb-false, le-leb, eqb-true, not-false}
+use borrow.Author.Tests.{ltb-true, ltb-false, le-ltb, le-leb, eqb-true, not-false}
 use Rattle.mask.specs.SearchLaws.{or-false-both, least-is}
 use Rattle.rule.specs.Numbers.{notZero, ruleSlotBad}
 use Rattle.rule.specs.NumbersLaws.{Clean, clean}
@@ -26,6 +26,10 @@ sized n k e =
     let p = or-false-both (ltb 32 n || ltb k 1) (ltb 32 k) e in
     let q = or-false-both (ltb 32 n) (ltb k 1) (p .0) in
     record { rules = ltb-false 32 n (q .0); some-cell = ltb-false k 1 (q .1); cells = ltb-false 32 k (p .1) }
+
+pub sizes-good : (n k : ℕ) → Sized n k → sizesBad n k ≡ false
+unfolding sizesBad
+sizes-good n k s = rw (le-ltb 32 n (s .rules), le-ltb k 1 (s .some-cell), le-ltb 32 k (s .cells))
 
 -- the parts of a sound table
 pub record Parts (t : Table) : Type 0 where

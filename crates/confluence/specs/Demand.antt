@@ -34,7 +34,7 @@ use Rattle.machine.specs.declared.State.{State}
 use Rattle.machine.specs.declared.Moved.{Moved}
 use Rattle.machine.specs.State.{Fits, waits}
 use Rattle.machine.specs.Step.{stepOf}
-use Rattle.machine.specs.More.{below-beyond}
+use Rattle.mask.specs.Below.{below-beyond}
 use Rattle.machine.specs.HeldLaws.{free}
 use Rattle.machine.specs.StateLaws.{fits-waiting, fits-faults, fits-cell}
 use Rattle.machine.specs.StepLaws.{Stepping, step-done, step-fits}

@@ -25,7 +25,7 @@ use Rattle.amounts.specs.Amounts.{differs as amounts-differ, stored as together
 use Rattle.amounts.specs.Body.{fires, faulty, acted, fires-local, faulty-local}
 use Rattle.amounts.specs.AmountsLaws.{Agree, stored-at, stored-else, value-same}
 use Rattle.amounts.specs.Whole.{alike, same}
-use Rattle.amounts.specs.More.{reads-below, targets-below}
+use Rattle.rule.specs.BelowLaws.{reads-below, targets-below}
 use Rattle.machine.specs.declared.State.{State}
 use Rattle.machine.specs.declared.Moved.{Moved}
 use Rattle.machine.specs.State.{Fits, waits}

@@ -6,16 +6,16 @@ use Prim.Native.Nat.{ℕ, zero, suc, _+_, _≤_, _<_}
 use native.Mathlib.Nat.{le-trans, le-suc}
 use native.Mathlib.Numerals.{add-one}
 use native.Mathlib.Omega.{arith}
-use lib.ListN.{length, List·getD-eq-default}
+use lib.ListN.{length}
 use borrow.Author.Tests.{lt-ltb, le-ltb}
 use Rattle.mask.specs.SearchLaws.{lt-or-ge}
-use Rattle.rule.specs.Fill.{filled, filled-more, getD-left, length-filled}
+use Rattle.rule.specs.Fill.{filled, filled-more}
 use Rattle.book.specs.declared.Answer.{Answer}
 use Rattle.book.specs.Check.{answer}
 use Rattle.pairs.specs.declared.Masks.{Masks}
 use Rattle.judging.specs.declared.Report.{Report}
-use Rattle.judging.specs.Cleared.{Past}
 use Rattle.analysis.specs.Says.{refusedReport}
+use Rattle.analysis.specs.MasksLaws.{filled-past}
 use Rattle.editor.specs.declared.Record.{Record}
 use Rattle.editor.specs.Rows.{recordAt, firstMasks, rowMasks, Padded, checkRows, RowsSay}
 use Rattle.editor.specs.Copying.{noRows, withRow, copyTo}
@@ -56,16 +56,9 @@ copy-many rs (suc n) l = rw (le-ltb n 32 (omega (arith, l)))
 
 -- ---- what the analysis asks
 
-past : (n : ℕ) (f : ℕ → ℕ) → n ≤ 32 → Past n (filled 32 0 f n)
-past n f few r l =
-    ⊎-elim (getD-left 32 0 f n 0 r l)
-    (λ m.
-    List·getD-eq-default (filled 32 0 f n) 0 {n = r} (subst (λ (x : ℕ). x ≤ r) (sym (length-filled 32 0 f n few)) m))
-    (lt-or-ge r 32)
-
 first-padded : (rs : List Record) (n : ℕ) → Padded (firstMasks rs n)
 first-padded rs n =
-    record { watch = past n _; reads = past n _; writes = past n _; precedes = past n _ }
+    record { watch = filled-past n _; reads = filled-past n _; writes = filled-past n _; precedes = filled-past n _ }
 
 pub copy-padded : (rs : List Record) (n : ℕ) → Padded (copyTo rs n)
 copy-padded rs n =

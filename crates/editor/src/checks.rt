@@ -1,16 +1,9 @@
 // The numbers 3, 6 and 10 of a row of records.
 ghost use mathlib.Core.Path.{_≡_};
-ghost use Prim.Native.Nat.{_^_, _<_, _≤_};
+ghost use Prim.Native.Nat.{_≤_};
 ghost use Rattle.editor.specs.Rows.{FirstBeyond, cyclic, Checked};
 use book::Answer;
 use pairs::Masks;
-
-// A mask as it is; a mask has 32 bits.
-fn bits(x: u32) -> u32
-    ensures { λ r. ⌜ (r ≡ x) × (x < 2 ^ 32) ⌝ }
-{
-    x
-}
 
 // 6: the first record with a precedes bit beyond the row, or the number of records.
 fn first_beyond(m: Masks) -> usize
@@ -20,7 +13,7 @@ fn first_beyond(m: Masks) -> usize
     let n = m.n;
     let precedes = m.precedes;
     for i in 0..n {
-        if mask::beyond(bits(precedes[i]), n) {
+        if mask::beyond(mask::bits(precedes[i]), n) {
             return i;
         }
     }

@@ -1,6 +1,5 @@
 // The editor's row: a lent slice of four-mask records is copied into arrays, checked, and analysed as a table's masks are.
 ghost use mathlib.Core.Path.{_≡_};
-ghost use Rattle.analysis.specs.Says.{refusedReport};
 ghost use Rattle.editor.specs.Rows.{rowMasks, Padded, RowsSay};
 ghost use Rattle.editor.specs.Copying.{noRows, withRow};
 ghost use Rattle.editor.specs.Bytes.{recordIn, rowsIn};
@@ -51,23 +50,6 @@ fn with_row(m: Masks, i: usize, r: Record) -> Masks
     o
 }
 
-fn no_report(number: u8, place: u8) -> Report
-    ensures { λ r. ⌜ r ≡ refusedReport number place ⌝ }
-{
-    Report {
-        number: number,
-        place: place,
-        cleared: false,
-        faulty: 0,
-        marks: [0u8; 496],
-        failing: 0,
-        first: 0,
-        second: 0,
-        culprit: 0,
-        other: 0,
-    }
-}
-
 // The report of records in arrays.
 fn analysed(m: Masks) -> Report
     requires { ⌜ Padded m ⌝ }
@@ -75,7 +57,7 @@ fn analysed(m: Masks) -> Report
 {
     let a = checks::check(m);
     if a.number != 0 {
-        return no_report(a.number, a.place);
+        return analysis::no_report(a.number, a.place);
     }
     judging::rows::report(m)
 }

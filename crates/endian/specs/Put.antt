@@ -5,7 +5,7 @@ use Prim.Native.Nat.{ℕ, _+_, _≤_, _<_}
 use native.Mathlib.Nat.{add-zero, zero-add, add-assoc}
 use native.Mathlib.Numerals.{add-one}
 use native.Mathlib.Omega.{arith}
-use lib.ListN.{length, take, drop, set, length-append, length-drop, take-append-drop}
+use lib.ListN.{length, take, drop, set, length-append, length-drop, take-append-drop, drop-of-length-le}
 use lib.Seq.{length-take-le, set-split, take-at, drop-drop, drop-append-add, append-snoc}
 use lib.Seq.{take-append-seam, drop-append-seam}
 
@@ -19,6 +19,11 @@ module _ {A : Type 0} where
   pub put-nil : (d : List A) (at : ℕ) → put d at [] ≡ d
   unfolding put
   put-nil d at = rw (add-zero, append-nil) (take-append-drop at d)
+
+  -- a write over the whole leaves nothing of what was there
+  pub put-whole : (d bs : List A) → length bs ≡ length d → put d 0 bs ≡ bs
+  unfolding put
+  put-whole d bs e = rw (drop-of-length-le d {i = 0 + length bs} (omega arith)) (append-nil bs)
 
   module _ (d : List A) (at : ℕ) (bs : List A) (fits : at + length bs ≤ length d) where
     length-head : length (take at d ++ bs) ≡ at + length bs

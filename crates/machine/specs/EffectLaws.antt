@@ -20,12 +20,12 @@ use Rattle.amounts.specs.Amounts.{at, differs, anyFalse, anyOut, stored, change
 use Rattle.amounts.specs.AmountsLaws.{length-stored}
 use Rattle.amounts.specs.Body.{faulty, acted, acted-keeps}
 use Rattle.amounts.specs.Whole.{alike}
-use Rattle.amounts.specs.More.{watches-below, targets-below, writes-below}
+use Rattle.rule.specs.BelowLaws.{watches-below, targets-below, writes-below}
 use Rattle.machine.specs.declared.State.{State}
 use Rattle.machine.specs.State.{Fits, waits}
 use Rattle.machine.specs.StateLaws.{rested-fits, marked-fits, renewed-fits, stored-good}
 use Rattle.machine.specs.Step.{rested, marked, wakes, renewed, effect}
-use Rattle.machine.specs.More.{has-maskOf}
+use Rattle.mask.specs.Below.{has-maskOf}
 
 -- ---- Fits is kept
 

@@ -2,7 +2,7 @@
 pub mod State
 pub mod Step
 pub mod Run
-pub mod More
+pub mod ReadyLaws
 pub mod StateLaws
 pub mod EffectLaws
 pub mod HeldLaws

@@ -24,7 +24,7 @@ use Rattle.amounts.specs.Whole.{same}
 use Rattle.machine.specs.declared.State.{State}
 use Rattle.machine.specs.State.{cellBad, cellsBad, stateBad, Fits, waits}
 use Rattle.machine.specs.Step.{rested, marked, wakes, renewed}
-use Rattle.machine.specs.More.{Below, beyond-below, below-beyond, maskOf-below}
+use Rattle.mask.specs.Below.{Below, beyond-below, below-beyond, maskOf-below}
 
 -- an amount that fits is in range, below k or not
 cell-range : (below : Bool) (z : ℤ) → slotted below (outOfRange z) (notZeroZ z) ≡ false → outOfRange z ≡ false

@@ -20,7 +20,7 @@ use Rattle.book.specs.Sound.{parts}
 use Rattle.amounts.specs.Amounts.{at, differs, changes}
 use Rattle.amounts.specs.AmountsLaws.{Agree}
 use Rattle.amounts.specs.Body.{faulty, acted, acted-keeps, acted-local, faulty-local}
-use Rattle.amounts.specs.More.{reads-below}
+use Rattle.rule.specs.BelowLaws.{reads-below}
 use Rattle.machine.specs.declared.State.{State}
 use Rattle.machine.specs.State.{Fits, waits}
 use Rattle.machine.specs.Step.{effect}

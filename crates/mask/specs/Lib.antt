@@ -5,3 +5,4 @@ pub mod Mask
 pub mod Bits
 pub mod MaskLaws
 pub mod Loops
+pub mod Below

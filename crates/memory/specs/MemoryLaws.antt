@@ -1,10 +1,9 @@
--- How many bytes a table has, one rule after another; writing them all leaves nothing else. Assumes nothing.
+-- How many bytes a table has, one rule after another. Assumes nothing.
 use mathlib.Core.Path.{_≡_}
-use mathlib.Core.List.{List, _++_, append-nil}
+use mathlib.Core.List.{List, _++_}
 use Prim.Native.Nat.{ℕ, _+_, _*_}
 use native.Mathlib.Omega.{arith}
-use lib.ListN.{length, getD, drop-of-length-le}
-use Rattle.endian.specs.Put.{put}
+use lib.ListN.{length, getD}
 use Rattle.endian.specs.Joined.{joined-more, length-joined}
 use Rattle.rule.specs.declared.Rule.{Rule}
 use Rattle.rule.specs.Empty.{blankRule}
@@ -26,8 +25,3 @@ module _ (rules : List Rule) (i : ℕ) where
 pub length-table : (t : Table) → length (tableBytes t) ≡ 9092
 unfolding tableBytes
 length-table t = omega (arith, length-rules (t .rules) 32)
-
--- a write over the whole leaves nothing of what was there
-pub put-whole : (d bs : List ℕ) → length bs ≡ length d → put d 0 bs ≡ bs
-unfolding put
-put-whole d bs e = rw (drop-of-length-le d {i = 0 + length bs} (omega arith)) (append-nil bs)

@@ -20,12 +20,6 @@ fn wide(x: u16) -> usize
     x as usize
 }
 
-fn count(x: u8) -> usize
-    ensures { λ r. ⌜ (r ≡ x) × (r < 256) ⌝ }
-{
-    x as usize
-}
-
 fn refused(number: u8, place: u8) -> Reading
     ensures { λ r. ⌜ r ≡ refusal number place ⌝ }
 {
@@ -65,9 +59,9 @@ fn body_bad(s: &[u8], i: usize) -> bool
     if len < 12 {
         return true;
     }
-    let t = count(s[at + 8]);
-    let a = count(s[at + 9]);
-    let m = count(s[at + 10]);
+    let t = rule::count(s[at + 8]);
+    let a = rule::count(s[at + 9]);
+    let m = rule::count(s[at + 10]);
     let z = s[at + 11];
     (8 < t) | (8 < a) | (m < 1) | (16 < m) | (z != 0) | (len != 12 + 12 * t + 20 * a + m)
 }
@@ -78,9 +72,9 @@ fn read_body(s: &[u8], i: usize) -> Rule
     ensures { λ r. ⌜ r ≡ ruleIn (now (s .entry)) (startOf (now (s .entry)) i) ⌝ }
 {
     let at = wide(endian::u16_at(s, 4 + 4 * i));
-    let t = count(s[at + 8]);
-    let a = count(s[at + 9]);
-    let m = count(s[at + 10]);
+    let t = rule::count(s[at + 8]);
+    let a = rule::count(s[at + 9]);
+    let m = rule::count(s[at + 10]);
     parts::read_rule(s, at, t, a, m)
 }
 
@@ -91,7 +85,7 @@ fn read_bodies(s: &[u8], n: u8, k: u8) -> Reading
 {
     let x = rule::no_rule();
     let mut out = [x; 32];
-    for i in 0..count(n) {
+    for i in 0..rule::count(n) {
         if body_bad(s, i) {
             return refused(5, i as u8);
         }
@@ -136,7 +130,7 @@ pub fn read(book: &[u8]) -> Reading
     if book::sizes_bad(n, k) {
         return refused(3, 255);
     }
-    if contents_bad(book, count(n)) {
+    if contents_bad(book, rule::count(n)) {
         return refused(4, 255);
     }
     read_bodies(book, n, k)

@@ -4,3 +4,4 @@ pub mod Empty
 pub mod Uses
 pub mod Numbers
 pub mod NumbersLaws
+pub mod BelowLaws

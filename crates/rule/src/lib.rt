@@ -1,5 +1,6 @@
 // One rule of a book, by value: what it holds, what it uses, what is wrong with it.
 ghost use mathlib.Core.Path.{_≡_};
+ghost use Prim.Native.Nat.{_<_};
 ghost use Rattle.rule.specs.Empty.{noTest, noAssign, noRule};
 
 pub mod numbers;
@@ -77,6 +78,13 @@ pub fn no_rule() -> Rule
         assigns: [y; 8],
         name: [0; 16],
     }
+}
+
+// A count byte as an index; a byte is below 256.
+pub fn count(x: u8) -> usize
+    ensures { λ r. ⌜ (r ≡ x) × (r < 256) ⌝ }
+{
+    x as usize
 }
 
 // A count byte as an index.

@@ -5,7 +5,6 @@ pub mod Book
 pub mod Write
 pub mod Round
 pub mod Held
-pub mod More
 pub mod BookLaws
 pub mod WriteLaws
 pub mod Slots

@@ -36,7 +36,8 @@ use Rattle.writer.specs.Held.{Held}
 use Rattle.writer.specs.Book.{bodySize, startAt, entryBytes, contentsBytes, bodiesBytes, bookOf}
 use Rattle.writer.specs.BookLaws.{Ready, ready, size-most, start-most, largest}
 use Rattle.writer.specs.BookLaws.{length-contents, length-bodies, length-book}
-use Rattle.writer.specs.More.{sizes-good, counts-good}
+use Rattle.book.specs.Sound.{sizes-good}
+use Rattle.reader.specs.GoodLaws.{counts-good}
 use Rattle.writer.specs.Slots.{past, empty-rule}
 
 module _ (t : Table) (sound : Sound t) (held : Held t) where

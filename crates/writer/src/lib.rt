@@ -21,16 +21,10 @@ pub struct Written {
     pub length: usize,
 }
 
-fn count(x: u8) -> usize
-    ensures { λ r. ⌜ (r ≡ x) × (r < 256) ⌝ }
-{
-    x as usize
-}
-
 fn body_size(r: Rule) -> usize
     ensures { λ n. ⌜ (n ≡ bodySize r) × (n ≤ 8427) ⌝ }
 {
-    12 + 12 * count(r.t) + 20 * count(r.a) + count(r.m)
+    12 + 12 * rule::count(r.t) + 20 * rule::count(r.a) + rule::count(r.m)
 }
 
 // Where the last of n bodies ends.
@@ -69,7 +63,14 @@ fn write_body(out: &mut [u8], at: usize, r: Rule)
     requires { ⌜ Counted r × (at + bodySize r ≤ length (now out)) ⌝ }
     ensures { λ _. ⌜ now (out .exit) ≡ put (now (out .entry)) at (bodyBytes r) ⌝ }
 {
-    pieces::write_rule(out, at, r, count(r.t), count(r.a), count(r.m));
+    pieces::write_rule(
+        out,
+        at,
+        r,
+        rule::count(r.t),
+        rule::count(r.a),
+        rule::count(r.m),
+    );
 }
 
 fn write_bodies(out: &mut [u8], n: usize, rules: [Rule; 32])
@@ -93,7 +94,7 @@ pub fn size(t: Table) -> usize
         return 0;
     }
     let rules = t.rules;
-    end_of(count(t.n), rules)
+    end_of(rule::count(t.n), rules)
 }
 
 pub fn write(t: Table, out: &mut [u8]) -> Written
@@ -107,7 +108,7 @@ pub fn write(t: Table, out: &mut [u8]) -> Written
             length: 0,
         };
     }
-    let n = count(t.n);
+    let n = rule::count(t.n);
     let rules = t.rules;
     let size = end_of(n, rules);
     if out.len() < size {

@@ -3,8 +3,7 @@ use mathlib.Core.Path.{_≡_, sym, _∙_}
 use native.Mathlib.Omega.{arith}
 use lib.ListN.{length}
 use borrow.Author.Needs.{needs}
-use Rattle.endian.specs.Put.{put-next}
-use Rattle.memory.specs.MemoryLaws.{put-whole}
+use Rattle.endian.specs.Put.{put-next, put-whole}
 use Rattle.layouts.specs.Layout.{headBytes, marksBytes, reportBytes}
 use Rattle.layouts.specs.LayoutLaws.{length-head, length-report}
 use Rattle.layouts.proofs.store_report.Statement.{statement}

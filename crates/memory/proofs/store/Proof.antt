@@ -4,12 +4,12 @@ use mathlib.Core.List.{List, [], _∷_}
 use Prim.Native.Nat.{ℕ, _+_, _*_, _≤_, _-_}
 use native.Mathlib.Omega.{arith}
 use lib.ListN.{length, getD}
-use Rattle.endian.specs.Put.{put, put-nil, put-next}
+use Rattle.endian.specs.Put.{put, put-nil, put-next, put-whole}
 use Rattle.endian.specs.Joined.{joined}
 use Rattle.rule.specs.Empty.{blankRule}
 use Rattle.pieces.specs.Pieces.{slotBytes}
 use Rattle.memory.specs.Memory.{rulesBytes, tableBytes}
-use Rattle.memory.specs.MemoryLaws.{length-rules, rules-more, length-table, put-whole}
+use Rattle.memory.specs.MemoryLaws.{length-rules, rules-more, length-table}
 use borrow.Author.Needs.{needs}
 use Rattle.memory.proofs.store.Statement.{statement}
 use Rattle.memory.proofs.store.Tie as tie

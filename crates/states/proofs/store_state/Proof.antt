@@ -4,9 +4,8 @@ use mathlib.Core.List.{_++_}
 use native.Mathlib.Omega.{arith}
 use lib.ListN.{length, length-append}
 use borrow.Author.Needs.{needs}
-use Rattle.endian.specs.Put.{put-next}
+use Rattle.endian.specs.Put.{put-next, put-whole}
 use Rattle.endian.specs.Bytes.{u32Bytes, length-u32}
-use Rattle.memory.specs.MemoryLaws.{put-whole}
 use Rattle.states.specs.States.{cellsBytes, stateBytes}
 use Rattle.states.specs.StatesLaws.{length-cells, length-state}
 use Rattle.states.proofs.store_state.Statement.{statement}

@@ -5,7 +5,7 @@ use Rattle.book.specs.Sound.{parts}
 use Rattle.book.specs.Table.{ruleAt}
 use Rattle.amounts.specs.Ready.{InRange, Ready}
 use Rattle.machine.specs.StateLaws.{fits-range}
-use Rattle.machine.specs.More.{ready-at}
+use Rattle.machine.specs.ReadyLaws.{ready-at}
 use Rattle.machine.specs.Step.{effect}
 use Rattle.machine.proofs.moves.effect.Statement.{statement}
 use Rattle.machine.proofs.moves.effect.Tie as tie

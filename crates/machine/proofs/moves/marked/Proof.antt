@@ -4,7 +4,7 @@ use lib.Dec.{eqb}
 use native.Mathlib.Omega.{arith}
 use borrow.Author.Needs.{needs}
 use Rattle.mask.specs.Mask.{has}
-use Rattle.machine.specs.More.{is-maskOf}
+use Rattle.mask.specs.Below.{is-maskOf}
 use Rattle.machine.specs.Step.{marked}
 use Rattle.machine.proofs.moves.marked.Statement.{statement}
 use Rattle.machine.proofs.moves.marked.Tie as tie

@@ -10,7 +10,7 @@ use Rattle.book.specs.Table.{ruleAt}
 use Rattle.amounts.specs.Amounts.{changes}
 use Rattle.machine.specs.State.{waits}
 use Rattle.machine.specs.Step.{wakes, renewed}
-use Rattle.machine.specs.More.{is-maskOf, meet-maskOf}
+use Rattle.mask.specs.Below.{is-maskOf, meet-maskOf}
 use Rattle.machine.proofs.moves.renewed.Statement.{statement}
 use Rattle.machine.proofs.moves.renewed.Tie as tie
 

@@ -4,7 +4,7 @@ use lib.Dec.{eqb}
 use native.Mathlib.Omega.{arith}
 use borrow.Author.Needs.{needs}
 use Rattle.machine.specs.State.{waits}
-use Rattle.machine.specs.More.{is-maskOf}
+use Rattle.mask.specs.Below.{is-maskOf}
 use Rattle.machine.specs.Step.{rested}
 use Rattle.machine.proofs.moves.rested.Statement.{statement}
 use Rattle.machine.proofs.moves.rested.Tie as tie

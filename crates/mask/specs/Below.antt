@@ -1,23 +1,15 @@
--- Laws of `mask` and `book` that a step needs. Assumes nothing.
+-- Sets within the numbers below n, and masks made by a test. Assumes nothing.
 use mathlib.Core.Path.{_≡_, refl, sym, ap, _∙_}
 use mathlib.Core.Bool.{Bool, true, false, _&&_}
 use Prim.Native.Nat.{ℕ, _<_, _^_}
 use lib.Dec.{ltb, leb}
 use borrow.Author.Tests.{lt-leb}
 use Rattle.mask.specs.Search.{some}
 use Rattle.mask.specs.SearchLaws.{some-none, some-same, and-true-both}
 use Rattle.mask.specs.Mask.{has, meet, beyond, maskOf}
 use Rattle.mask.specs.Bits.{has-lt}
 use Rattle.mask.specs.MaskLaws.{not-beyond}
 use Rattle.mask.specs.Loops.{maskOf-picked, maskOf-unique, picked-all}
-use Rattle.book.specs.declared.Table.{Table}
-use Rattle.book.specs.Table.{ruleAt}
-use Rattle.book.specs.Check.{Sound}
-use Rattle.book.specs.Sound.{parts}
-use Rattle.amounts.specs.Ready.{Ready}
-use Rattle.amounts.specs.More.{ready}
-
--- ---- masks
 
 -- every member is below n
 pub record Below (n m : ℕ) : Type 0 where
@@ -52,8 +44,3 @@ unfolding meet
 meet-maskOf w f =
     some-same 32 (λ c. has w c && has (maskOf 32 f) c) (λ c. has w c && f c)
     (λ c l. ap (λ (b : Bool). has w c && b) (has-maskOf f c l))
-
--- ---- a rule of a sound table can be stepped
-
-pub ready-at : (t : Table) → Sound t → (r : ℕ) → r < t .n → Ready (ruleAt t r)
-ready-at t h r l = ready (t .n) (t .k) (t .rules) r (ruleAt t r) (parts t h .sizes .cells) (parts t h .rules r l)

@@ -1,29 +1,15 @@
--- Laws of a table's answer and of a reading: what number 0 says. Assumes nothing.
-use mathlib.Core.Path.{_≡_, refl, sym, ap, _∙_}
+-- What number 0 says of a reading. Assumes nothing.
+use mathlib.Core.Path.{_≡_, refl, ap}
 use mathlib.Core.List.{List}
-use mathlib.Core.Bool.{Bool, true, false, not, cond, _||_, false≢true}
+use mathlib.Core.Bool.{Bool, true, false, not, cond, _||_}
 use Prim.Native.Nat.{ℕ, _+_}
 use native.Mathlib.Omega.{arith}
 use borrow.Author.Tests.{le-ltb, eq-eqb}
-use Rattle.rule.specs.Numbers.{notZero}
 use Rattle.endian.specs.Little.{byteAt}
-use Rattle.book.specs.declared.Answer.{Answer}
-use Rattle.book.specs.Check.{answer, sizesBad, numberAt}
-use Rattle.book.specs.Sound.{Sized}
+use Rattle.book.specs.Check.{numberAt}
 use Rattle.reader.specs.declared.Reading.{Reading}
 use Rattle.reader.specs.Read.{startOf, lengthOf, sizeIn, lengthBad, headBad, bodyBad, tableIn, numberIn, refusal, readOf}
 use Rattle.reader.specs.Inside.{Counts}
-
--- a choice with number 0 is the later one
-skip : (b : Bool) (m p : ℕ) (y : Answer) → (b ≡ true → notZero m ≡ true) → cond b (answer m p) y .number ≡ 0
-    → (cond b (answer m p) y ≡ y) × (y .number ≡ 0)
-skip true m p y h e = absurd (false≢true (sym (ap notZero e) ∙ h refl))
-skip false m p y h e = (refl, e)
-
--- the sizes that 3 does not refuse
-pub sizes-good : (n k : ℕ) → Sized n k → sizesBad n k ≡ false
-unfolding sizesBad
-sizes-good n k s = rw (le-ltb 32 n (s .rules), le-ltb k 1 (s .some-cell), le-ltb 32 k (s .cells))
 
 -- a reading with number 0: the later one of a choice
 pass : (b : Bool) (x p : ℕ) (y : Reading) → cond b (refusal (1 + x) p) y .number ≡ 0 → (b ≡ false) × (y .number ≡ 0)
