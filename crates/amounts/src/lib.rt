@@ -109,7 +109,7 @@ pub fn any_out(r: Rule, cells: [i64; 32]) -> bool
     let a = rule::wide(r.a);
     let mut found = false;
     for j in 0..a {
-        found = rule::numbers::out_of_range(worked(assigns[j], cells)) | found;
+        found = fields::out_of_range(worked(assigns[j], cells)) | found;
     }
     found
 }

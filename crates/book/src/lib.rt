@@ -68,7 +68,7 @@ fn first_bad(t: Table) -> usize
     let n = rule::wide(t.n);
     let rules = t.rules;
     for i in 0..n {
-        if rule::numbers::rule_number(t.n, t.k, rules, i, rules[i]) != 0 {
+        if numbers::rule_number(t.n, t.k, rules, i, rules[i]) != 0 {
             return i;
         }
     }
@@ -82,7 +82,7 @@ fn first_slot(t: Table) -> usize
     let n = rule::wide(t.n);
     let rules = t.rules;
     for i in 0..32 {
-        if (n <= i) & rule::numbers::rule_slot_bad(rules[i]) {
+        if (n <= i) & numbers::rule_slot_bad(rules[i]) {
             return i;
         }
     }
@@ -113,7 +113,7 @@ pub fn check(t: Table) -> Answer
     if i < rule::wide(t.n) {
         let rules = t.rules;
         return Answer {
-            number: rule::numbers::rule_number(t.n, t.k, rules, i, rules[i]),
+            number: numbers::rule_number(t.n, t.k, rules, i, rules[i]),
             place: i as u8,
         };
     }

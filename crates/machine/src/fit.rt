@@ -13,7 +13,7 @@ fn cells_bad(cells: [i64; 32], k: usize) -> bool
     for c in 0..32 {
         let v = cells[c];
         let below = c < k;
-        bad = ((below & rule::numbers::out_of_range(v)) | (!below & ((v < 0) | (0 < v)))) | bad;
+        bad = ((below & fields::out_of_range(v)) | (!below & ((v < 0) | (0 < v)))) | bad;
     }
     bad
 }

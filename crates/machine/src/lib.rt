@@ -129,7 +129,7 @@ fn post_number(t: Table, s: State, cell: u32, value: i64) -> u8
     if fit::state_bad(t, s) {
         return 11;
     }
-    if (rule::wide(t.k) <= cell as usize) | rule::numbers::out_of_range(value) {
+    if (rule::wide(t.k) <= cell as usize) | fields::out_of_range(value) {
         return 16;
     }
     0

@@ -90,7 +90,7 @@ fn read_bodies(s: &[u8], n: u8, k: u8) -> Reading
             return refused(5, i as u8);
         }
         let r = read_body(s, i);
-        let c = rule::numbers::rule_number(n, k, out, i, r);
+        let c = numbers::rule_number(n, k, out, i, r);
         if c != 0 {
             return refused(c, i as u8);
         }

@@ -3,8 +3,6 @@ ghost use mathlib.Core.Path.{_≡_};
 ghost use Prim.Native.Nat.{_<_};
 ghost use Rattle.rule.specs.Empty.{noTest, noAssign, noRule};
 
-pub mod numbers;
-
 pub struct Test {
     pub left: u8,
     pub comparison: u8,

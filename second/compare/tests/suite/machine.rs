@@ -135,6 +135,10 @@ fn the_night_book() {
         let (given, reached) = both.run(&after, 2);
         assert_eq!((given, reached.cells[2]), ((0, 255), ends));
     }
+    // "Stepping a rule that isn't waiting: 13, even if a waiting rule goes before it."
+    let (_, held) = both.step(&posted, 0);
+    assert_eq!(both.step(&held, 0).0, (13, 255));
+    assert_eq!(both.step(&held, 1).0, (14, 255));
     assert_eq!(both.run(&posted, 2).0, (15, 255));
     assert_eq!(both.step(&posted, 256).0, (12, 255));
     assert_eq!(both.post(&posted, 256, 1).0, (16, 255));

@@ -1,0 +1,56 @@
+-- Of the assignments passed, one has a bad cell exactly when `bad`.
+use Prim.Native.Nat.{_≤_, _-_}
+use lib.ListN.{getD}
+use Rattle.mask.specs.Loops.{Sought, sought-none, sought-more, sought-all}
+use Rattle.rule.specs.Numbers.{assignCellBad}
+use Rattle.rule.specs.Empty.{noAssign}
+use borrow.Author.Needs.{needs}
+use Rattle.fields.proofs.assign_cells_bad.Statement.{statement}
+use Rattle.fields.proofs.assign_cells_bad.Tie as tie
+
+abbrev Inv-loop : tie.InvT-loop
+Inv-loop a k xs bad₀ j₀ bad j = (j ≤ a) × Sought (λ i. assignCellBad k (getD xs i noAssign)) j bad
+
+abbrev μ-loop : tie.MeasureT-loop
+μ-loop a k xs bad₀ j₀ bad j = a - j
+
+loop-holds : tie.Need-loop-holds Inv-loop μ-loop
+loop-holds c = (search needs, sought-none)
+
+mul-assign-cell-bad : tie.Need-mul-assign-cell-bad Inv-loop μ-loop
+mul-assign-cell-bad c = search needs
+
+array-copy-out-assign-cell-bad : tie.Need-array-copy-out-assign-cell-bad Inv-loop μ-loop
+array-copy-out-assign-cell-bad c = search needs
+
+assign-cell-bad-requires : tie.Need-assign-cell-bad-requires Inv-loop μ-loop
+assign-cell-bad-requires c κs = search needs
+
+add-j : tie.Need-add-j Inv-loop μ-loop
+add-j c = search needs
+
+loop-less : tie.Need-loop-less Inv-loop μ-loop
+loop-less c = search needs
+
+loop-again : tie.Need-loop-again Inv-loop μ-loop
+loop-again c =
+    (search needs, sought-more (c .before .before .before .loop .inv .1) (c .assign-cell-bad .ensures))
+
+returns : tie.Need-returns Inv-loop μ-loop
+returns c =
+    sought-all (c .before .loop .inv .1) (c .before .loop .inv .0) (c .loop-test .left)
+
+pub assign-cells-bad-spec : {M : Type 1} → statement M
+assign-cells-bad-spec =
+    tie.close
+    (tie.spec
+    Inv-loop
+    μ-loop
+    loop-holds
+    mul-assign-cell-bad
+    array-copy-out-assign-cell-bad
+    assign-cell-bad-requires
+    add-j
+    loop-less
+    loop-again
+    returns)

@@ -1,0 +1,56 @@
+-- Of the tests passed, one has a bad cell exactly when `bad`.
+use Prim.Native.Nat.{_≤_, _-_}
+use lib.ListN.{getD}
+use Rattle.mask.specs.Loops.{Sought, sought-none, sought-more, sought-all}
+use Rattle.rule.specs.Numbers.{testCellBad}
+use Rattle.rule.specs.Empty.{noTest}
+use borrow.Author.Needs.{needs}
+use Rattle.fields.proofs.test_cells_bad.Statement.{statement}
+use Rattle.fields.proofs.test_cells_bad.Tie as tie
+
+abbrev Inv-loop : tie.InvT-loop
+Inv-loop t k xs bad₀ j₀ bad j = (j ≤ t) × Sought (λ i. testCellBad k (getD xs i noTest)) j bad
+
+abbrev μ-loop : tie.MeasureT-loop
+μ-loop t k xs bad₀ j₀ bad j = t - j
+
+loop-holds : tie.Need-loop-holds Inv-loop μ-loop
+loop-holds c = (search needs, sought-none)
+
+mul-test-cell-bad : tie.Need-mul-test-cell-bad Inv-loop μ-loop
+mul-test-cell-bad c = search needs
+
+array-copy-out-test-cell-bad : tie.Need-array-copy-out-test-cell-bad Inv-loop μ-loop
+array-copy-out-test-cell-bad c = search needs
+
+test-cell-bad-requires : tie.Need-test-cell-bad-requires Inv-loop μ-loop
+test-cell-bad-requires c κs = search needs
+
+add-j : tie.Need-add-j Inv-loop μ-loop
+add-j c = search needs
+
+loop-less : tie.Need-loop-less Inv-loop μ-loop
+loop-less c = search needs
+
+loop-again : tie.Need-loop-again Inv-loop μ-loop
+loop-again c =
+    (search needs, sought-more (c .before .before .before .loop .inv .1) (c .test-cell-bad .ensures))
+
+returns : tie.Need-returns Inv-loop μ-loop
+returns c =
+    sought-all (c .before .loop .inv .1) (c .before .loop .inv .0) (c .loop-test .left)
+
+pub test-cells-bad-spec : {M : Type 1} → statement M
+test-cells-bad-spec =
+    tie.close
+    (tie.spec
+    Inv-loop
+    μ-loop
+    loop-holds
+    mul-test-cell-bad
+    array-copy-out-test-cell-bad
+    test-cell-bad-requires
+    add-j
+    loop-less
+    loop-again
+    returns)

@@ -1,0 +1,11 @@
+use mathlib.Core.Path.{refl}
+use Rattle.rule.specs.Numbers.{countsBad}
+use Rattle.numbers.proofs.counts_bad.Statement.{statement}
+use Rattle.numbers.proofs.counts_bad.Tie as tie
+
+returns : tie.Need-returns
+unfolding countsBad
+returns c = refl
+
+pub counts-bad-spec : {M : Type 1} → statement M
+counts-bad-spec = tie.close (tie.spec returns)

@@ -1,0 +1,51 @@
+-- Of the letters passed, one is bad exactly when `bad`.
+use Prim.Native.Nat.{_≤_, _-_}
+use lib.ListN.{getD}
+use Rattle.mask.specs.Loops.{Sought, sought-none, sought-more, sought-all}
+use Rattle.rule.specs.Numbers.{letterBad}
+use borrow.Author.Needs.{needs}
+use Rattle.numbers.proofs.name_bad.Statement.{statement}
+use Rattle.numbers.proofs.name_bad.Tie as tie
+
+abbrev Inv-loop : tie.InvT-loop
+Inv-loop m name bad₀ j₀ bad j = (j ≤ m) × Sought (λ i. letterBad (getD name i 0)) j bad
+
+abbrev μ-loop : tie.MeasureT-loop
+μ-loop m name bad₀ j₀ bad j = m - j
+
+loop-holds : tie.Need-loop-holds Inv-loop μ-loop
+loop-holds c = (search needs, sought-none)
+
+array-read-letter-bad : tie.Need-array-read-letter-bad Inv-loop μ-loop
+array-read-letter-bad c = search needs
+
+letter-bad-requires : tie.Need-letter-bad-requires Inv-loop μ-loop
+letter-bad-requires c κs = search needs
+
+add-j : tie.Need-add-j Inv-loop μ-loop
+add-j c = search needs
+
+loop-less : tie.Need-loop-less Inv-loop μ-loop
+loop-less c = search needs
+
+loop-again : tie.Need-loop-again Inv-loop μ-loop
+loop-again c =
+    (search needs, sought-more (c .before .before .loop .inv .1) (c .letter-bad .ensures))
+
+returns : tie.Need-returns Inv-loop μ-loop
+returns c =
+    sought-all (c .before .loop .inv .1) (c .before .loop .inv .0) (c .loop-test .left)
+
+pub name-bad-spec : {M : Type 1} → statement M
+name-bad-spec =
+    tie.close
+    (tie.spec
+    Inv-loop
+    μ-loop
+    loop-holds
+    array-read-letter-bad
+    letter-bad-requires
+    add-j
+    loop-less
+    loop-again
+    returns)

@@ -1,0 +1,57 @@
+-- Of the rules passed, one has the name of r exactly when `taken`.
+use Prim.Native.Nat.{_≤_, _-_}
+use lib.ListN.{getD}
+use Rattle.mask.specs.Loops.{Sought, sought-none, sought-more, sought-all}
+use Rattle.rule.specs.Numbers.{sameName, nameTaken}
+use Rattle.rule.specs.Empty.{blankRule}
+use borrow.Author.Needs.{needs}
+use Rattle.numbers.proofs.name_taken.Statement.{statement}
+use Rattle.numbers.proofs.name_taken.Tie as tie
+
+abbrev Inv-loop : tie.InvT-loop
+Inv-loop i r rules taken₀ h₀ taken h = (h ≤ i) × Sought (λ x. sameName (getD rules x blankRule) r) h taken
+
+abbrev μ-loop : tie.MeasureT-loop
+μ-loop i r rules taken₀ h₀ taken h = i - h
+
+loop-holds : tie.Need-loop-holds Inv-loop μ-loop
+loop-holds c = (search needs, sought-none)
+
+mul-same-name : tie.Need-mul-same-name Inv-loop μ-loop
+mul-same-name c = search needs
+
+array-copy-out-same-name : tie.Need-array-copy-out-same-name Inv-loop μ-loop
+array-copy-out-same-name c = search needs
+
+same-name-requires : tie.Need-same-name-requires Inv-loop μ-loop
+same-name-requires c κs = search needs
+
+add-h : tie.Need-add-h Inv-loop μ-loop
+add-h c = search needs
+
+loop-less : tie.Need-loop-less Inv-loop μ-loop
+loop-less c = search needs
+
+loop-again : tie.Need-loop-again Inv-loop μ-loop
+loop-again c =
+    (search needs, sought-more (c .before .before .before .loop .inv .1) (c .same-name .ensures))
+
+returns : tie.Need-returns Inv-loop μ-loop
+unfolding nameTaken
+returns c =
+    sought-all (c .before .loop .inv .1) (c .before .loop .inv .0) (c .loop-test .left)
+
+pub name-taken-spec : {M : Type 1} → statement M
+name-taken-spec =
+    tie.close
+    (tie.spec
+    Inv-loop
+    μ-loop
+    loop-holds
+    mul-same-name
+    array-copy-out-same-name
+    same-name-requires
+    add-h
+    loop-less
+    loop-again
+    returns)

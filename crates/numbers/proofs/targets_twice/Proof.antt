@@ -1,0 +1,41 @@
+-- Of the assignments passed, one has the target of an earlier one exactly when `bad`.
+use Prim.Native.Nat.{_≤_, _-_}
+use lib.ListN.{getD}
+use Rattle.mask.specs.Loops.{Sought, sought-none, sought-more, sought-all}
+use lib.Dec.{eqb}
+use Rattle.mask.specs.Search.{some}
+use Rattle.rule.specs.Empty.{noAssign}
+use borrow.Author.Needs.{needs}
+use Rattle.numbers.proofs.targets_twice.Statement.{statement}
+use Rattle.numbers.proofs.targets_twice.Tie as tie
+
+abbrev Inv-loop : tie.InvT-loop
+Inv-loop xs a bad₀ j₀ bad j = (j ≤ a) × Sought (λ h. some h (λ i. eqb (getD xs i noAssign .target) (getD xs h noAssign .target))) j bad
+
+abbrev μ-loop : tie.MeasureT-loop
+μ-loop xs a bad₀ j₀ bad j = a - j
+
+loop-holds : tie.Need-loop-holds Inv-loop μ-loop
+loop-holds c = (search needs, sought-none)
+
+target-taken-requires : tie.Need-target-taken-requires Inv-loop μ-loop
+target-taken-requires c κs = search needs
+
+add-j : tie.Need-add-j Inv-loop μ-loop
+add-j c = search needs
+
+loop-less : tie.Need-loop-less Inv-loop μ-loop
+loop-less c = search needs
+
+loop-again : tie.Need-loop-again Inv-loop μ-loop
+loop-again c =
+    (search needs, sought-more (c .before .before .loop .inv .1) (c .target-taken .ensures))
+
+returns : tie.Need-returns Inv-loop μ-loop
+returns c =
+    sought-all (c .before .loop .inv .1) (c .before .loop .inv .0) (c .loop-test .left)
+
+pub targets-twice-spec : {M : Type 1} → statement M
+targets-twice-spec =
+    tie.close
+    (tie.spec Inv-loop μ-loop loop-holds target-taken-requires add-j loop-less loop-again returns)
