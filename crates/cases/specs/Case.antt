@@ -1,20 +1,20 @@
 -- What a case of the treasurer's says. Assumes nothing.
 use mathlib.Core.Path.{_≡_}
-use mathlib.Core.Bool.{Bool, true, false, _&&_, not}
+use mathlib.Core.Bool.{true, cond}
 use mathlib.Core.List.{List, [], _∷_, _++_}
 use Prim.Native.Nat.{ℕ, _-_}
 use Prim.Native.String.{String}
-use lib.Dec.{eqb}
 use lib.IntN.{ℤ, pos}
 use lib.ListN.{length, replicate}
+use Rattle.rule.specs.Numbers.{isZero}
 use Rattle.book.specs.declared.Table.{Table}
-use Rattle.book.specs.Check.{checkOf}
 use Rattle.reader.specs.Read.{readOf}
-use Rattle.amounts.specs.Amounts.{differs, scaled}
+use Rattle.amounts.specs.Amounts.{scaled}
 use Rattle.machine.specs.declared.State.{State}
+use Rattle.machine.specs.declared.Moved.{Moved}
 use Rattle.machine.specs.State.{zeros}
-use Rattle.machine.specs.Step.{stepOf, postOf}
-use Rattle.machine.specs.Run.{runOf}
+use Rattle.machine.specs.Step.{moved, stepOf, postOf}
+use Rattle.machine.specs.Run.{ran, runOf}
 use Rattle.pairs.specs.Masks.{commute}
 use Rattle.judging.specs.declared.Bound.{Bound}
 use Rattle.analysis.specs.Masks.{masksOf}
@@ -52,33 +52,19 @@ pub data Case : Type 0 where
   -- a book, and what the report program prints for it
   prints : List ℕ → String → Case
 
-abbrev pub sameAmounts : List ℤ → List ℤ → Bool
-sameAmounts [] [] = true
-sameAmounts [] (y ∷ ys) = false
-sameAmounts (x ∷ xs) [] = false
-sameAmounts (x ∷ xs) (y ∷ ys) = not (differs x y) && sameAmounts xs ys
-
-abbrev pub sameState : State → State → Bool
-sameState s u = sameAmounts (s .cells) (u .cells) && eqb (s .waiting) (u .waiting) && eqb (s .faults) (u .faults)
-
--- the rules of a list stepped one after another from s: each is done, and the end is u
-abbrev pub ends : Table → State → List ℕ → State → Bool
-ends t s [] u = sameState s u
-ends t s (r ∷ rs) u = let m = stepOf t s r in eqb (m .number) 0 && ends t (m .state) rs u
+-- the rules of a list stepped one after another, as long as each step is done
+abbrev pub stepped : Table → Moved → List ℕ → Moved
+stepped t m [] = m
+stepped t m (r ∷ rs) = cond (isZero (m .number)) (stepped t (stepOf t (m .state) r) rs) m
 
 abbrev pub Holds : Case → Type 0
 Holds (reads s number place n k) =
-    let r = readOf s in
-    (eqb (r .number) number && eqb (r .place) place && eqb (r .table .n) n && eqb (r .table .k) k) ≡ true
-Holds (scales a p q z) = not (differs (scaled a p q) z) ≡ true
-Holds (steps s a rs b) = (eqb (checkOf (tableOf s) .number) 0 && ends (tableOf s) a rs b) ≡ true
-Holds (refuses s a r number) = let m = stepOf (tableOf s) a r in (eqb (m .number) number && sameState (m .state) a) ≡ true
-Holds (posts s cell value b) =
-    let m = postOf (tableOf s) zeros cell value in
-    (eqb (m .number) 0 && sameState (m .state) b) ≡ true
-Holds (runs s a budget b n) =
-    let m = runOf (tableOf s) a budget in
-    (eqb (m .number) 0 && sameState (m .state) b && eqb (m .steps) n) ≡ true
+    (readOf s .number ≡ number) × (readOf s .place ≡ place) × (tableOf s .n ≡ n) × (tableOf s .k ≡ k)
+Holds (scales a p q z) = scaled a p q ≡ z
+Holds (steps s a rs b) = stepped (tableOf s) (moved 0 255 a) rs ≡ moved 0 255 b
+Holds (refuses s a r number) = stepOf (tableOf s) a r ≡ moved number 255 a
+Holds (posts s cell value b) = postOf (tableOf s) zeros cell value ≡ moved 0 255 b
+Holds (runs s a budget b n) = runOf (tableOf s) a budget ≡ ran 0 255 b n
 Holds (commutes s i j) = commute (masksOf (tableOf s)) i j ≡ true
 Holds (bounds s set v) = (b : Bound) → BoundSays (tableOf s) set b → (b .number ≡ 0) × (b .bound ≡ v)
 Holds (prints s text) = (x : List ℕ) → TextOf s x → x ≡ letters text

@@ -109,11 +109,11 @@ unfolding Search.some Search.least Mask.has Mask.meet Mask.beyond Mask.maskOf Gr
     Text.spaced Text.membersText Text.twoNumbers Text.numbered Text.endsLine Text.pairsLine Text.clearedLine
     Text.fourLines
 all-hold =
-    refl
+    (refl, refl, refl, refl)
     and lines empty Sheets.empty _ (all .empty) refl 0 0 refl refl refl
-    and refl
+    and (refl, refl, refl, refl)
     and refused (1 ∷ 0 ∷ 1 ∷ []) refl
-    and refl
+    and (refl, refl, refl, refl)
     and lines tax Sheets.tax _ (all .tax) refl 1 1 refl refl refl
     and refl
     and refl
