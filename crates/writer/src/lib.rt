@@ -10,9 +10,7 @@ ghost use Rattle.rule.specs.NumbersLaws.{Counted};
 ghost use Rattle.writer.specs.Book.{bodySize, startAt, contentsBytes, bodiesBytes};
 ghost use Rattle.writer.specs.BookLaws.{Ready};
 ghost use Rattle.writer.specs.Write.{writeOf, sizeOf};
-ghost use Rattle.writer.specs.Round.{rewriteOf, rereadOf};
 use book::Table;
-use reader::Reading;
 use rule::Rule;
 
 pub struct Written {
@@ -126,37 +124,4 @@ pub fn write(t: Table, out: &mut [u8]) -> Written
         place: 255,
         length: size,
     }
-}
-
-// Reads a book and writes its table: the same bytes again.
-pub fn rewrite(book: &[u8], out: &mut [u8]) -> Written
-    ensures { λ r. ⌜ (r, now (out .exit)) ≡ rewriteOf (now (book .entry)) (now (out .entry)) ⌝ }
-{
-    let r = reader::read(book);
-    if r.number != 0 {
-        return Written {
-            number: r.number,
-            place: r.place,
-            length: 0,
-        };
-    }
-    let t = r.table;
-    write(t, out)
-}
-
-// Writes a table and reads the bytes back: the same table again.
-pub fn reread(t: Table, out: &mut [u8]) -> Reading
-    ensures { λ r. ⌜ (r, now (out .exit)) ≡ rereadOf t (now (out .entry)) ⌝ }
-{
-    let w = write(t, out);
-    if w.number != 0 {
-        let x = book::no_table();
-        return Reading {
-            number: w.number,
-            place: w.place,
-            table: x,
-        };
-    }
-    let size = w.length;
-    reader::read(&out[..size])
 }

@@ -8,17 +8,17 @@ use compare::tables::OnTable;
 use second::generate::{book, spoil, table, torn_book, Random};
 use std::cell::RefCell;
 
-const TABLES: u64 = 40_000;
+const TABLES: u64 = 100_000;
 const AROUND: u64 = 300;
-const BOOKS: u64 = 25_000;
+const BOOKS: u64 = 50_000;
 const NUMBERS: [usize; 8] = [0, 3, 5, 6, 7, 8, 9, 10];
 
 #[test]
 fn tables_of_the_generator() {
     let (mut sizes, mut tally) = (Tally::new("sizes"), Tally::new("writes"));
     compare_writes(None, &mut sizes, &mut tally, TABLES);
-    sizes.close(40_000, &NUMBERS, 20);
-    tally.close(160_000, &NUMBERS, 50);
+    sizes.close(100_000, &NUMBERS, 50);
+    tally.close(200_000, &NUMBERS, 50);
 }
 
 /// "a done write leaves the bytes after the book untouched"
@@ -55,10 +55,11 @@ fn books_rewritten() {
             assert_eq!(out, book, "the book of seed {seed}");
         }
     }
-    tally.close(50_000, &[0], 22_000);
+    tally.close(100_000, &[0], 45_000);
 }
 
-/// Each into a buffer that fits, a longer one and two shorter ones.
+/// In turn into a buffer that fits and one that is a byte too short, or into a
+/// longer one and one of any length up to the book's.
 pub fn compare_writes(
     answers: Option<&RefCell<Answers>>,
     sizes: &mut Tally,
@@ -75,8 +76,11 @@ pub fn compare_writes(
         let (given, size) = both.size();
         sizes.add(given);
         let size = size as usize;
-        let long = size + random.between(1, 40);
-        for room in [size, long, size.saturating_sub(1), random.below(size + 1)] {
+        let rooms = match seed % 2 {
+            0 => [size, size.saturating_sub(1)],
+            _ => [size + random.between(1, 40), random.below(size + 1)],
+        };
+        for room in rooms {
             tally.add(both.write(room));
         }
     }

@@ -19,7 +19,7 @@ use Rattle.rule.specs.Uses.{testAt, assignAt}
 use Rattle.rule.specs.Empty.{noTest, noAssign, blankRule}
 use Rattle.book.specs.Table.{ruleAt}
 use Rattle.pieces.specs.Held.{HeldTest, HeldAssign, HeldRule}
-use Rattle.writer.specs.Held.{Held}
+use Rattle.rounds.specs.Held.{Held}
 use Rattle.book.proofs.Table as table
 use Rattle.rule.proofs.Test as test
 use Rattle.rule.proofs.Assign as assign

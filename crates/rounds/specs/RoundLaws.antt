@@ -12,15 +12,15 @@ use Rattle.book.specs.Check.{checkOf}
 use Rattle.reader.specs.declared.Reading.{Reading}
 use Rattle.reader.specs.Read.{refusal, taken, readOf}
 use Rattle.reader.specs.ReadLaws.{read-done}
 use Rattle.writer.specs.declared.Written.{Written}
 use Rattle.writer.specs.Book.{bookOf}
 use Rattle.writer.specs.Write.{written, writeOf}
 use Rattle.writer.specs.WriteLaws.{write-refused, write-short, write-done, wrote}
 use Rattle.writer.specs.WriteLaws.{Outcome, refused, short, finished, outcome}
-use Rattle.writer.specs.Held.{Held}
-use Rattle.writer.specs.WriteRead.{same-table}
-use Rattle.writer.specs.RoundTrip.{read-sound, read-book}
-use Rattle.writer.specs.Round.{rewriteOf, rereadOf}
+use Rattle.rounds.specs.Held.{Held}
+use Rattle.rounds.specs.WriteRead.{same-table}
+use Rattle.rounds.specs.RoundTrip.{read-sound, read-book}
+use Rattle.rounds.specs.Round.{rewriteOf, rereadOf}
 
 module _ (s d : List ℕ) where
   pub rewrite-refused : (readOf s .number ≡ 0 → ⊥) → rewriteOf s d ≡ (written (readOf s .number) (readOf s .place) 0, d)

@@ -12,13 +12,13 @@ use Rattle.book.specs.Check.{checkOf, Sound}
 use Rattle.reader.specs.declared.Reading.{Reading}
 use Rattle.reader.specs.Read.{tableIn, taken, readOf}
 use Rattle.reader.specs.ReadLaws.{read-done}
 use Rattle.writer.specs.declared.Written.{Written}
 use Rattle.writer.specs.Book.{bookOf}
 use Rattle.writer.specs.Write.{written, writeOf, sizeOf}
 use Rattle.writer.specs.WriteLaws.{size-done, write-done, wrote}
-use Rattle.writer.specs.ReadWrite.{same-bytes}
-use Rattle.writer.specs.Held.{Held}
-use Rattle.writer.specs.WriteRead.{same-table}
+use Rattle.rounds.specs.ReadWrite.{same-bytes}
+use Rattle.rounds.specs.Held.{Held}
+use Rattle.rounds.specs.WriteRead.{same-table}
 
 -- the table of a reading
 abbrev tableOf : Reading → Table

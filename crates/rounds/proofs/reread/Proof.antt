@@ -7,14 +7,14 @@ use lib.ListN.{length, take}
 use lib.Seq.{length-take-le}
 use Rattle.reader.specs.declared.Reading.{Reading}
 use Rattle.reader.specs.Read.{refusal, readOf}
 use Rattle.writer.specs.declared.Written.{Written}
 use Rattle.writer.specs.Write.{writeOf}
 use Rattle.writer.specs.WriteLaws.{wrote}
-use Rattle.writer.specs.RoundLaws.{reread-refused, reread-done}
-use Rattle.writer.proofs.Holds.{table-held}
+use Rattle.rounds.specs.RoundLaws.{reread-refused, reread-done}
+use Rattle.rounds.proofs.Holds.{table-held}
 use borrow.Author.Needs.{needs}
-use Rattle.writer.proofs.reread.Statement.{statement}
-use Rattle.writer.proofs.reread.Tie as tie
+use Rattle.rounds.proofs.reread.Statement.{statement}
+use Rattle.rounds.proofs.reread.Tie as tie
 
 write-requires : tie.Need-write-requires
 write-requires c κs = search needs

@@ -3,11 +3,11 @@ use mathlib.Core.Path.{sym, ap, _∙_}
 use native.Mathlib.Omega.{arith}
 use Rattle.endian.specs.Stands.{Bytes}
 use Rattle.reader.specs.declared.Reading.{Reading}
 use Rattle.writer.specs.Write.{written, writeOf}
-use Rattle.writer.specs.RoundLaws.{rewrite-refused, rewrite-done}
+use Rattle.rounds.specs.RoundLaws.{rewrite-refused, rewrite-done}
 use borrow.Author.Needs.{needs}
-use Rattle.writer.proofs.rewrite.Statement.{statement}
-use Rattle.writer.proofs.rewrite.Tie as tie
+use Rattle.rounds.proofs.rewrite.Statement.{statement}
+use Rattle.rounds.proofs.rewrite.Tie as tie
 
 read-requires : tie.Need-read-requires
 read-requires c κs = search needs

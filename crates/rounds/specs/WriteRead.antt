@@ -32,13 +32,13 @@ use Rattle.reader.specs.Read.{nOf, kOf, startOf, lengthOf, endOf, ruleIn, table
 use Rattle.reader.specs.Read.{lengthBad, headBad, contentsBad}
 use Rattle.reader.specs.Inside.{Counts}
 use Rattle.reader.specs.ReadLaws.{number-table, none-refused}
-use Rattle.writer.specs.Held.{Held}
+use Rattle.rounds.specs.Held.{Held}
 use Rattle.writer.specs.Book.{bodySize, startAt, entryBytes, contentsBytes, bodiesBytes, bookOf}
 use Rattle.writer.specs.BookLaws.{Ready, ready, size-most, start-most, largest}
 use Rattle.writer.specs.BookLaws.{length-contents, length-bodies, length-book}
 use Rattle.book.specs.Sound.{sizes-good}
 use Rattle.reader.specs.GoodLaws.{counts-good}
-use Rattle.writer.specs.Slots.{past, empty-rule}
+use Rattle.rounds.specs.Slots.{past, empty-rule}
 
 module _ (t : Table) (sound : Sound t) (held : Held t) where
   abbrev s : List ℕ
