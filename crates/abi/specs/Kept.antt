@@ -13,11 +13,11 @@ use Rattle.endian.specs.Stands.{Bytes}
 use Rattle.rule.specs.Numbers.{isZero, notZero}
 use Rattle.book.specs.declared.Table.{Table}
 use Rattle.book.specs.Check.{checkOf}
-use Rattle.machine.specs.declared.State.{State}
-use Rattle.machine.specs.declared.Ran.{Ran}
-use Rattle.machine.specs.State.{stateBad, still, zeros}
-use Rattle.machine.specs.Step.{moved, answered, effect, stepNumber, stepOf, postNumber, postOf, freshNumber, freshOf}
-use Rattle.machine.specs.Run.{ran, next, later, runs, runOf}
+use Rattle.steps.specs.declared.State.{State}
+use Rattle.steps.specs.declared.Ran.{Ran}
+use Rattle.steps.specs.State.{stateBad, still, zeros}
+use Rattle.steps.specs.Step.{moved, answered, effect, stepNumber, stepOf, postNumber, postOf, freshNumber, freshOf}
+use Rattle.steps.specs.Run.{ran, next, later, runs, runOf}
 use Rattle.states.specs.States.{stateFrom, cellsBytes, stateBytes}
 use Rattle.states.specs.RoundTrip.{state-written}
 

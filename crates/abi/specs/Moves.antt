@@ -3,8 +3,8 @@ use mathlib.Core.Path.{_≡_}
 use mathlib.Core.List.{List}
 use Prim.Native.Nat.{ℕ}
 use Rattle.book.specs.Check.{answer}
-use Rattle.machine.specs.declared.Moved.{Moved}
-use Rattle.machine.specs.declared.Ran.{Ran}
+use Rattle.steps.specs.declared.Moved.{Moved}
+use Rattle.steps.specs.declared.Ran.{Ran}
 use Rattle.states.specs.States.{stateBytes}
 use Rattle.abi.specs.Code.{codeOf}
 

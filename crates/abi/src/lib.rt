@@ -4,8 +4,8 @@ ghost use Prim.Native.Nat.{_<_};
 ghost use Rattle.book.specs.Check.{checkOf};
 ghost use Rattle.memory.specs.Memory.{tableFrom, tableBytes};
 ghost use Rattle.reader.specs.Read.{readOf};
-ghost use Rattle.machine.specs.Step.{freshOf, stepOf, postOf};
-ghost use Rattle.machine.specs.Run.{runOf};
+ghost use Rattle.steps.specs.Step.{freshOf, stepOf, postOf};
+ghost use Rattle.steps.specs.Run.{runOf};
 ghost use Rattle.states.specs.States.{cellsFrom, stateFrom};
 ghost use Rattle.writer.specs.Write.{writeOf};
 ghost use Rattle.abi.specs.Code.{codeOf, answerOf};
@@ -17,7 +17,7 @@ ghost use Rattle.editor.specs.Rows.{rowMasks};
 ghost use Rattle.editor.specs.Bytes.{rowsIn};
 ghost use Rattle.abi.specs.Rowed.{RowsCross};
 use book::Answer;
-use machine::Moved;
+use steps::Moved;
 
 fn wide(x: u8) -> u32
     ensures { λ r. ⌜ (r ≡ x) × (r < 256) ⌝ }

@@ -10,11 +10,11 @@ use Rattle.rule.specs.Numbers.{isZero}
 use Rattle.book.specs.declared.Table.{Table}
 use Rattle.reader.specs.Read.{readOf}
 use Rattle.amounts.specs.Amounts.{scaled}
-use Rattle.machine.specs.declared.State.{State}
-use Rattle.machine.specs.declared.Moved.{Moved}
-use Rattle.machine.specs.State.{zeros}
-use Rattle.machine.specs.Step.{moved, stepOf, postOf}
-use Rattle.machine.specs.Run.{ran, runOf}
+use Rattle.steps.specs.declared.State.{State}
+use Rattle.steps.specs.declared.Moved.{Moved}
+use Rattle.steps.specs.State.{zeros}
+use Rattle.steps.specs.Step.{moved, stepOf, postOf}
+use Rattle.steps.specs.Run.{ran, runOf}
 use Rattle.pairs.specs.Masks.{commute}
 use Rattle.judging.specs.declared.Bound.{Bound}
 use Rattle.analysis.specs.Masks.{masksOf}

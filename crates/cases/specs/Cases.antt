@@ -16,10 +16,10 @@ use Rattle.book.specs.Table as Table
 use Rattle.book.specs.Check as Check
 use Rattle.reader.specs.Read as Read
 use Rattle.amounts.specs.Amounts as Amounts
-use Rattle.machine.specs.declared.State.{State}
-use Rattle.machine.specs.State as Fit
-use Rattle.machine.specs.Step as Step
-use Rattle.machine.specs.Run as Run
+use Rattle.steps.specs.declared.State.{State}
+use Rattle.steps.specs.State as Fit
+use Rattle.steps.specs.Step as Step
+use Rattle.steps.specs.Run as Run
 use Rattle.weights.specs.Weight as Weight
 use Rattle.pairs.specs.Masks as Masks
 use Rattle.judging.specs.Written as Written

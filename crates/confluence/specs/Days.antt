@@ -8,10 +8,10 @@ use lib.IntN.{ℤ}
 use Rattle.book.specs.declared.Table.{Table}
 use Rattle.judging.specs.declared.Report.{Report}
 use Rattle.analysis.specs.Says.{ReportSays}
-use Rattle.machine.specs.declared.State.{State}
-use Rattle.machine.specs.State.{Fits}
-use Rattle.machine.specs.Step.{postOf}
-use Rattle.machine.specs.PostLaws.{post-fits}
+use Rattle.steps.specs.declared.State.{State}
+use Rattle.steps.specs.State.{Fits}
+use Rattle.steps.specs.Step.{postOf}
+use Rattle.steps.specs.PostLaws.{post-fits}
 use Rattle.confluence.specs.Permitted.{after, Permitted, Still, Held}
 use Rattle.confluence.specs.Demand.{demand-3, cleared-by, after-fits}
 

@@ -30,14 +30,14 @@ use Rattle.analysis.specs.Masks.{masksOf}
 use Rattle.analysis.specs.Says.{ReportSays, BoundSays}
 use Rattle.amounts.specs.Amounts.{at}
 use Rattle.amounts.specs.Whole.{same}
-use Rattle.machine.specs.declared.State.{State}
-use Rattle.machine.specs.declared.Moved.{Moved}
-use Rattle.machine.specs.State.{Fits, waits}
-use Rattle.machine.specs.Step.{stepOf}
+use Rattle.steps.specs.declared.State.{State}
+use Rattle.steps.specs.declared.Moved.{Moved}
+use Rattle.steps.specs.State.{Fits, waits}
+use Rattle.steps.specs.Step.{stepOf}
 use Rattle.mask.specs.Below.{below-beyond}
-use Rattle.machine.specs.HeldLaws.{free}
-use Rattle.machine.specs.StateLaws.{fits-waiting, fits-faults, fits-cell}
-use Rattle.machine.specs.StepLaws.{Stepping, step-done, step-fits}
+use Rattle.steps.specs.HeldLaws.{free}
+use Rattle.steps.specs.StateLaws.{fits-waiting, fits-faults, fits-cell}
+use Rattle.steps.specs.StepLaws.{Stepping, step-done, step-fits}
 use Rattle.orders.specs.Finite.{sum}
 use Rattle.orders.specs.Runner.{Runner, Eligible, exec, Runs, Ended}
 use Rattle.orders.specs.Runner as orders

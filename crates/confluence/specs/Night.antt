@@ -24,11 +24,11 @@ use Rattle.analysis.specs.Masks.{masksOf}
 use Rattle.analysis.specs.Sets.{commute-writes}
 use Rattle.analysis.specs.Says.{ReportSays}
 use Rattle.amounts.specs.Amounts.{at}
-use Rattle.machine.specs.declared.State.{State}
-use Rattle.machine.specs.declared.Moved.{Moved}
-use Rattle.machine.specs.State.{waits}
-use Rattle.machine.specs.Step.{stepOf, moved}
-use Rattle.machine.specs.StepLaws.{Stepping, step-done}
+use Rattle.steps.specs.declared.State.{State}
+use Rattle.steps.specs.declared.Moved.{Moved}
+use Rattle.steps.specs.State.{waits}
+use Rattle.steps.specs.Step.{stepOf, moved}
+use Rattle.steps.specs.StepLaws.{Stepping, step-done}
 use Rattle.confluence.specs.Permitted.{after, Permitted, Still, Held}
 use Rattle.confluence.specs.Demand.{OneEnd, demand-3, cleared-by}
 use Rattle.confluence.specs.Worked.{night, state, evening, twins, both, other, facts}

@@ -4,8 +4,8 @@ use mathlib.Core.List.{List, [], _∷_}
 use Prim.Native.Nat.{ℕ, _^_, _<_}
 use Rattle.book.specs.declared.Table.{Table}
 use Rattle.book.specs.Table.{ruleAt}
-use Rattle.machine.specs.declared.State.{State}
-use Rattle.machine.specs.Step.{stepOf}
+use Rattle.steps.specs.declared.State.{State}
+use Rattle.steps.specs.Step.{stepOf}
 
 -- the state after the step calls of a list of rule numbers, one after the other
 abbrev pub after : Table → State → List ℕ → State

@@ -10,13 +10,13 @@ use Rattle.book.specs.declared.Table.{Table}
 use Rattle.book.specs.Check.{Sound}
 use Rattle.judging.specs.declared.Report.{Report}
 use Rattle.analysis.specs.Says.{ReportSays}
-use Rattle.machine.specs.declared.State.{State}
-use Rattle.machine.specs.declared.Moved.{Moved}
-use Rattle.machine.specs.declared.Ran.{Ran}
-use Rattle.machine.specs.State.{Fits, lowestOf}
-use Rattle.machine.specs.Step.{stepOf}
-use Rattle.machine.specs.Run.{runOf, runs, next}
-use Rattle.machine.specs.RunLaws.{Steps, none, more, Ended, done, spent, Runs, runs-steps, run-is}
+use Rattle.steps.specs.declared.State.{State}
+use Rattle.steps.specs.declared.Moved.{Moved}
+use Rattle.steps.specs.declared.Ran.{Ran}
+use Rattle.steps.specs.State.{Fits, lowestOf}
+use Rattle.steps.specs.Step.{stepOf}
+use Rattle.steps.specs.Run.{runOf, runs, next}
+use Rattle.steps.specs.RunLaws.{Steps, none, more, Ended, done, spent, Runs, runs-steps, run-is}
 use Rattle.confluence.specs.Permitted.{after, Permitted, Still, Held}
 use Rattle.confluence.specs.Demand.{boundOf, EveryOrder, OneEnd, cleared-by, demand-3}
 

@@ -26,14 +26,14 @@ use Rattle.amounts.specs.Body.{fires, faulty, acted, fires-local, faulty-local}
 use Rattle.amounts.specs.AmountsLaws.{Agree, stored-at, stored-else, value-same}
 use Rattle.amounts.specs.Whole.{alike, same}
 use Rattle.rule.specs.BelowLaws.{reads-below, targets-below}
-use Rattle.machine.specs.declared.State.{State}
-use Rattle.machine.specs.declared.Moved.{Moved}
-use Rattle.machine.specs.State.{Fits, waits}
-use Rattle.machine.specs.HeldLaws.{free-by}
-use Rattle.machine.specs.Step.{stepOf, effect, moved, wakes}
-use Rattle.machine.specs.StepLaws.{step-is, step-fits}
-use Rattle.machine.specs.StateLaws.{fits-waiting}
-use Rattle.machine.specs.EffectLaws.{cells-after, waits-after, faults-after, wakes-below}
+use Rattle.steps.specs.declared.State.{State}
+use Rattle.steps.specs.declared.Moved.{Moved}
+use Rattle.steps.specs.State.{Fits, waits}
+use Rattle.steps.specs.HeldLaws.{free-by}
+use Rattle.steps.specs.Step.{stepOf, effect, moved, wakes}
+use Rattle.steps.specs.StepLaws.{step-is, step-fits}
+use Rattle.steps.specs.StateLaws.{fits-waiting}
+use Rattle.steps.specs.EffectLaws.{cells-after, waits-after, faults-after, wakes-below}
 use Rattle.orders.specs.Runner.{Runner, Eligible}
 use Rattle.orders.specs.Cells.{Cells, EqualOn, changed, changed-intro, changed-elim}
 use Rattle.orders.specs.Actions.{Actions, stored}

@@ -16,11 +16,11 @@ use Rattle.book.specs.declared.Table.{Table}
 use Rattle.book.specs.Table as Table
 use Rattle.book.specs.Check as Check
 use Rattle.amounts.specs.Amounts as Amounts
-use Rattle.machine.specs.declared.State.{State}
-use Rattle.machine.specs.State as State
-use Rattle.machine.specs.State.{Fits}
-use Rattle.machine.specs.Step as Step
-use Rattle.machine.specs.Step.{moved, stepOf}
+use Rattle.steps.specs.declared.State.{State}
+use Rattle.steps.specs.State as State
+use Rattle.steps.specs.State.{Fits}
+use Rattle.steps.specs.Step as Step
+use Rattle.steps.specs.Step.{moved, stepOf}
 
 -- an assignment to a cell: cell a + k; and k alone
 abbrev pub plus : ℕ → ℕ → ℤ → Assign

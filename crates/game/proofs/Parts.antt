@@ -7,16 +7,16 @@ use mir.Val.{Val}
 use denote.Laws.{Is}
 use denote.Struct.Laws as LL
 use Rattle.book.specs.declared.Table.{Table}
-use Rattle.machine.specs.declared.State.{State}
-use Rattle.machine.specs.declared.Moved.{Moved}
+use Rattle.steps.specs.declared.State.{State}
+use Rattle.steps.specs.declared.Moved.{Moved}
 use Rattle.book.specs.declared.Answer.{Answer}
 use Rattle.game.specs.Lent.{answerOf}
 use Rattle.book.proofs.Table as B
 use Rattle.book.proofs.Table.Laws as B′
-use Rattle.machine.proofs.State as T
-use Rattle.machine.proofs.State.Laws as T′
-use Rattle.machine.proofs.Moved as S
-use Rattle.machine.proofs.Moved.Laws as S′
+use Rattle.steps.proofs.State as T
+use Rattle.steps.proofs.State.Laws as T′
+use Rattle.steps.proofs.Moved as S
+use Rattle.steps.proofs.Moved.Laws as S′
 use Rattle.book.proofs.Answer as N
 use Rattle.book.proofs.Answer.Laws as N′
 

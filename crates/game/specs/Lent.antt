@@ -1,7 +1,7 @@
 -- What comes back from a call on a lent state: the number with its place. Assumes nothing.
 use Rattle.book.specs.declared.Answer.{Answer}
 use Rattle.book.specs.Check.{answer}
-use Rattle.machine.specs.declared.Moved.{Moved}
+use Rattle.steps.specs.declared.Moved.{Moved}
 
 abbrev pub answerOf : Moved → Answer
 answerOf m = answer (m .number) (m .place)

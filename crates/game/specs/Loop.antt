@@ -2,9 +2,9 @@
 use mathlib.Core.Path.{_≡_}
 use Prim.Native.Nat.{ℕ, _-_, _≤_, _<_}
 use Rattle.book.specs.declared.Table.{Table}
-use Rattle.machine.specs.declared.State.{State}
-use Rattle.machine.specs.Step.{stepOf}
-use Rattle.machine.specs.Run.{later, runOf}
+use Rattle.steps.specs.declared.State.{State}
+use Rattle.steps.specs.Step.{stepOf}
+use Rattle.steps.specs.Run.{later, runOf}
 
 -- 32 or more: the run is over; a rule: the run goes on after a step on it, with one less of the budget
 pub record Due (t : Table) (s : State) (left r : ℕ) : Type 0 where

@@ -9,16 +9,16 @@ use Rattle.rule.specs.Numbers.{notZero}
 use Rattle.book.specs.declared.Table.{Table}
 use Rattle.book.specs.declared.Answer.{Answer}
 use Rattle.book.specs.Check.{checkOf, Sound}
-use Rattle.machine.specs.declared.State.{State}
-use Rattle.machine.specs.declared.Ran.{Ran}
-use Rattle.machine.specs.declared.Moved.{Moved}
-use Rattle.machine.specs.State.{stateBad, Fits, lowestOf}
-use Rattle.machine.specs.Step.{stepOf}
-use Rattle.machine.specs.Run.{ran, later, next, runs, runOf}
-use Rattle.machine.specs.EffectLaws.{effect-fits}
-use Rattle.machine.specs.StepLaws.{step-is}
-use Rattle.machine.specs.EligibleLaws.{lowest-eligible, lowest-below}
-use Rattle.machine.specs.RunLaws.{runs-none, runs-spent, runs-more, run-is}
+use Rattle.steps.specs.declared.State.{State}
+use Rattle.steps.specs.declared.Ran.{Ran}
+use Rattle.steps.specs.declared.Moved.{Moved}
+use Rattle.steps.specs.State.{stateBad, Fits, lowestOf}
+use Rattle.steps.specs.Step.{stepOf}
+use Rattle.steps.specs.Run.{ran, later, next, runs, runOf}
+use Rattle.steps.specs.EffectLaws.{effect-fits}
+use Rattle.steps.specs.StepLaws.{step-is}
+use Rattle.steps.specs.EligibleLaws.{lowest-eligible, lowest-below}
+use Rattle.steps.specs.RunLaws.{runs-none, runs-spent, runs-more, run-is}
 use Rattle.game.specs.Loop.{Due}
 
 -- a run as its two tests choose it

@@ -1,13 +1,13 @@
 // The game loop: a single run state, lent to be changed on the spot.
 ghost use mathlib.Core.Path.{_≡_};
-ghost use Rattle.machine.specs.Step.{stepOf, postOf};
-ghost use Rattle.machine.specs.Run.{ran, runOf};
+ghost use Rattle.steps.specs.Step.{stepOf, postOf};
+ghost use Rattle.steps.specs.Run.{ran, runOf};
 ghost use Rattle.game.specs.Lent.{answerOf};
 ghost use Rattle.game.specs.Loop.{Due};
 use book::Answer;
 use book::Table;
-use machine::Ran;
-use machine::State;
+use steps::Ran;
+use steps::State;
 
 // One step on r: its state is stored where it is done; where it is refused, the state is the one given.
 pub fn step(t: Table, s: &mut State, r: u32) -> Answer

@@ -2,36 +2,16 @@
 ghost use mathlib.Core.Path.{_≡_};
 ghost use Prim.Native.Nat.{_≤_};
 ghost use Rattle.book.specs.Check.{checkOf};
-ghost use Rattle.machine.specs.State.{still};
-ghost use Rattle.machine.specs.Step.{moved, stepNumber, stepOf, postNumber, postOf, freshOf};
-ghost use Rattle.machine.specs.Run.{runOf};
+ghost use Rattle.steps.specs.State.{still};
+ghost use Rattle.steps.specs.Step.{moved, stepNumber, stepOf, postNumber, postOf, freshOf};
+ghost use Rattle.steps.specs.Run.{runOf};
 
-mod fit;
-mod moves;
 mod running;
 
 use book::Table;
-
-pub struct State {
-    pub cells: [i64; 32],
-    pub waiting: u32,
-    pub faults: u32,
-}
-
-// A number with its place, and the state that comes back.
-pub struct Moved {
-    pub number: u8,
-    pub place: u8,
-    pub state: State,
-}
-
-// The same of a run, with the steps taken.
-pub struct Ran {
-    pub number: u8,
-    pub place: u8,
-    pub state: State,
-    pub steps: u32,
-}
+use steps::Moved;
+use steps::Ran;
+use steps::State;
 
 // Done, or a number of the call's own: the place is 255.
 fn answer(number: u8, s: State) -> Moved
@@ -77,7 +57,7 @@ pub fn fresh(t: Table, cells: [i64; 32]) -> Moved
         return a;
     }
     let s = still(cells);
-    if fit::state_bad(t, s) {
+    if moves::state_bad(t, s) {
         return answer(11, none);
     }
     answer(0, s)
@@ -88,7 +68,7 @@ fn step_number(t: Table, s: State, r: u32) -> u8
     requires { ⌜ t .n ≤ 32 ⌝ }
     ensures { λ x. ⌜ x ≡ stepNumber t s r ⌝ }
 {
-    if fit::state_bad(t, s) {
+    if moves::state_bad(t, s) {
         return 11;
     }
     let i = r as usize;
@@ -126,7 +106,7 @@ fn post_number(t: Table, s: State, cell: u32, value: i64) -> u8
     requires { ⌜ t .n ≤ 32 ⌝ }
     ensures { λ x. ⌜ x ≡ postNumber t s cell value ⌝ }
 {
-    if fit::state_bad(t, s) {
+    if moves::state_bad(t, s) {
         return 11;
     }
     if (rule::wide(t.k) <= cell as usize) | fields::out_of_range(value) {
@@ -167,7 +147,7 @@ pub fn run(t: Table, s: State, budget: u32) -> Ran
             steps: 0,
         };
     }
-    if fit::state_bad(t, s) {
+    if moves::state_bad(t, s) {
         return running::ran(11, s, 0);
     }
     running::runs(t, book::goes_before(t), s, budget)

@@ -8,12 +8,11 @@ ghost use Rattle.mask.specs.Mask.{has};
 ghost use Rattle.mask.specs.Loops.{named};
 ghost use Rattle.book.specs.Table.{goesBefore};
 ghost use Rattle.book.specs.Check.{Sound};
-ghost use Rattle.machine.specs.State.{Fits};
-ghost use Rattle.machine.specs.Run.{ran, runs};
-use super::Ran;
-use super::State;
-use super::moves::effect;
+ghost use Rattle.steps.specs.State.{Fits};
+ghost use Rattle.steps.specs.Run.{ran, runs};
 use book::Table;
+use steps::Ran;
+use steps::State;
 
 // Done, or a number of the run's own: the place is 255.
 pub fn ran(number: u8, s: State, steps: u32) -> Ran
@@ -47,7 +46,7 @@ pub fn runs(t: Table, rows: [u32; 32], s: State, budget: u32) -> Ran
             return ran(15, now, steps);
         }
         let r = mask::lowest(eligible(rows, now.waiting));
-        let after = effect(t, now, r);
+        let after = moves::effect(t, now, r);
         now = after;
         steps += 1;
     }

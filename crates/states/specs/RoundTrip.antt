@@ -15,7 +15,7 @@ use Rattle.endian.specs.Joined.{joined, stands-joined, stands-each}
 use Rattle.rule.specs.Fill.{getD-filled}
 use Rattle.pieces.specs.Rows.{slots-are}
 use Rattle.amounts.specs.Amounts.{at}
-use Rattle.machine.specs.declared.State.{State}
+use Rattle.steps.specs.declared.State.{State}
 use Rattle.states.specs.States.{cellIn, cellsFrom, stateFrom, cellsBytes, stateBytes}
 use Rattle.states.specs.StatesLaws.{length-cells, length-state}
 

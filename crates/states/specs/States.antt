@@ -7,7 +7,7 @@ use Rattle.endian.specs.Bytes.{u32Bytes, i64Bytes}
 use Rattle.endian.specs.Joined.{joined}
 use Rattle.rule.specs.Fill.{filled}
 use Rattle.amounts.specs.Amounts.{at}
-use Rattle.machine.specs.declared.State.{State}
+use Rattle.steps.specs.declared.State.{State}
 
 -- the amount of cell i
 abbrev pub cellIn : List ℕ → ℕ → ℤ

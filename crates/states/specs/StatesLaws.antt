@@ -7,7 +7,7 @@ use lib.ListN.{length, length-append}
 use Rattle.endian.specs.Bytes.{i64Bytes, length-u32, length-i64}
 use Rattle.endian.specs.Joined.{joined-more, length-joined}
 use Rattle.amounts.specs.Amounts.{at}
-use Rattle.machine.specs.declared.State.{State}
+use Rattle.steps.specs.declared.State.{State}
 use Rattle.states.specs.States.{cellsBytes, stateBytes}
 
 module _ (cells : List ℤ) (n : ℕ) where

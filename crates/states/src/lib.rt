@@ -4,7 +4,7 @@ ghost use Prim.Native.Nat.{_≤_};
 ghost use lib.ListN.{length};
 ghost use Rattle.endian.specs.Put.{put};
 ghost use Rattle.states.specs.States.{cellsFrom, cellsBytes, stateFrom, stateBytes};
-use machine::State;
+use steps::State;
 
 // The first 256 bytes as 32 amounts.
 pub fn load_cells(s: &[u8]) -> [i64; 32]

@@ -1,8 +1,8 @@
 -- The state is what the machine ensures of the table and the amounts that were loaded.
 use mathlib.Core.Path.{ap₂, _∙_, subst}
 use borrow.Author.Needs.{needs}
-use Rattle.machine.specs.declared.Moved.{Moved}
-use Rattle.machine.specs.Step.{freshOf}
+use Rattle.steps.specs.declared.Moved.{Moved}
+use Rattle.steps.specs.Step.{freshOf}
 use Rattle.abi.specs.Moves.{MovedTo}
 use Rattle.abi.proofs.gwaunidor_fresh.Statement.{statement}
 use Rattle.abi.proofs.gwaunidor_fresh.Tie as tie

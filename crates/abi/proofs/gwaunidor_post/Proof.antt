@@ -4,9 +4,9 @@ use lib.IntN.{ℤ}
 use mir.Facts.{toZ-ofZ}
 use borrow.Author.Needs.{needs}
 use Rattle.book.specs.declared.Table.{Table}
-use Rattle.machine.specs.declared.State.{State}
-use Rattle.machine.specs.declared.Moved.{Moved}
-use Rattle.machine.specs.Step.{postOf}
+use Rattle.steps.specs.declared.State.{State}
+use Rattle.steps.specs.declared.Moved.{Moved}
+use Rattle.steps.specs.Step.{postOf}
 use Rattle.abi.specs.Moves.{MovedTo}
 use Rattle.abi.proofs.gwaunidor_post.Statement.{statement}
 use Rattle.abi.proofs.gwaunidor_post.Tie as tie

@@ -2,9 +2,9 @@
 use mathlib.Core.Path.{refl, ap₂, _∙_, subst}
 use borrow.Author.Needs.{needs}
 use Rattle.book.specs.declared.Table.{Table}
-use Rattle.machine.specs.declared.State.{State}
-use Rattle.machine.specs.declared.Ran.{Ran}
-use Rattle.machine.specs.Run.{runOf}
+use Rattle.steps.specs.declared.State.{State}
+use Rattle.steps.specs.declared.Ran.{Ran}
+use Rattle.steps.specs.Run.{runOf}
 use Rattle.abi.specs.Moves.{RanTo}
 use Rattle.abi.proofs.gwaunidor_run.Statement.{statement}
 use Rattle.abi.proofs.gwaunidor_run.Tie as tie

@@ -2,9 +2,9 @@
 use mathlib.Core.Path.{ap₂, _∙_, subst}
 use borrow.Author.Needs.{needs}
 use Rattle.book.specs.declared.Table.{Table}
-use Rattle.machine.specs.declared.State.{State}
-use Rattle.machine.specs.declared.Moved.{Moved}
-use Rattle.machine.specs.Step.{stepOf}
+use Rattle.steps.specs.declared.State.{State}
+use Rattle.steps.specs.declared.Moved.{Moved}
+use Rattle.steps.specs.Step.{stepOf}
 use Rattle.abi.specs.Moves.{MovedTo}
 use Rattle.abi.proofs.gwaunidor_step.Statement.{statement}
 use Rattle.abi.proofs.gwaunidor_step.Tie as tie

@@ -13,11 +13,11 @@ use Rattle.book.specs.declared.Answer.{Answer}
 use Rattle.book.specs.Table.{goesBefore}
 use Rattle.book.specs.Check.{Sound}
 use Rattle.book.specs.Sound.{parts, sound-by}
-use Rattle.machine.specs.declared.Ran.{Ran}
-use Rattle.machine.specs.State.{stateBad, Fits, waits, held, eligible, lowestOf}
-use Rattle.machine.specs.Step.{stepOf}
-use Rattle.machine.specs.Run.{later, runOf}
-use Rattle.machine.specs.EligibleLaws.{lowest-eligible}
+use Rattle.steps.specs.declared.Ran.{Ran}
+use Rattle.steps.specs.State.{stateBad, Fits, waits, held, eligible, lowestOf}
+use Rattle.steps.specs.Step.{stepOf}
+use Rattle.steps.specs.Run.{later, runOf}
+use Rattle.steps.specs.EligibleLaws.{lowest-eligible}
 use Rattle.game.specs.LoopLaws.{refused-over, over-by, spent-waits, more-by}
 use Rattle.game.proofs.due.Statement.{statement}
 use Rattle.game.proofs.due.Tie as tie

@@ -48,20 +48,20 @@ use denote.Triple.Table.{entered, cited}
 use denote.Triple.Walked.{says, Stays, stay-none, walkOf, AllGo, goes-none, Walks, ends-at, walked, walk-meets}
 use denote.Exit.{yes as as-passed}
 use Rattle.book.specs.declared.Table.{Table}
-use Rattle.machine.specs.declared.State.{State}
-use Rattle.machine.specs.declared.Ran.{Ran}
-use Rattle.machine.specs.Step.{stepOf}
-use Rattle.machine.specs.Run.{ran, runOf}
+use Rattle.steps.specs.declared.State.{State}
+use Rattle.steps.specs.declared.Ran.{Ran}
+use Rattle.steps.specs.Step.{stepOf}
+use Rattle.steps.specs.Run.{ran, runOf}
 use Rattle.book.specs.declared.Answer.{Answer}
 use Rattle.game.specs.Lent.{answerOf}
 use Rattle.game.specs.Loop.{Due}
 use Rattle.game.specs.LoopLaws.{Playing, play-start, play-turn, play-end}
 use Rattle.book.proofs.Table as B
 use Rattle.book.proofs.Table.Laws as B′
-use Rattle.machine.proofs.State as T
-use Rattle.machine.proofs.State.Laws as T′
-use Rattle.machine.proofs.Ran as P
-use Rattle.machine.proofs.Ran.Laws as P′
+use Rattle.steps.proofs.State as T
+use Rattle.steps.proofs.State.Laws as T′
+use Rattle.steps.proofs.Ran as P
+use Rattle.steps.proofs.Ran.Laws as P′
 use Rattle.book.proofs.Answer as N
 use Rattle.book.proofs.Answer.Laws as N′
 use Rattle.game.proofs.Parts.{book, mach}

@@ -41,16 +41,16 @@ use denote.Triple.Table.{entered, cited}
 use denote.Triple.Walked.{says, Stays, stay-ref, stay-none, walkOf, AllGo, goes-none, goes-ref, Walks, ends-at, walked, walk-meets}
 use denote.Exit.{yes}
 use Rattle.book.specs.declared.Table.{Table}
-use Rattle.machine.specs.declared.State.{State}
-use Rattle.machine.specs.declared.Moved.{Moved}
-use Rattle.machine.specs.Step.{stepOf}
+use Rattle.steps.specs.declared.State.{State}
+use Rattle.steps.specs.declared.Moved.{Moved}
+use Rattle.steps.specs.Step.{stepOf}
 use Rattle.game.specs.Lent.{answerOf}
 use Rattle.book.proofs.Table as B
 use Rattle.book.proofs.Table.Laws as B′
-use Rattle.machine.proofs.State as T
-use Rattle.machine.proofs.State.Laws as T′
-use Rattle.machine.proofs.Moved as S
-use Rattle.machine.proofs.Moved.Laws as S′
+use Rattle.steps.proofs.State as T
+use Rattle.steps.proofs.State.Laws as T′
+use Rattle.steps.proofs.Moved as S
+use Rattle.steps.proofs.Moved.Laws as S′
 use Rattle.machine.proofs.step as step
 use Rattle.machine.proofs.step.Symbol as step-def
 use Rattle.machine.proofs.step.Symbol.{name as #machine·step}

@@ -6,10 +6,10 @@ use native.Mathlib.Omega.{arith}
 use borrow.Author.Needs.{needs}
 use Rattle.book.specs.Check.{Sound}
 use Rattle.book.specs.Sound.{parts}
-use Rattle.machine.specs.declared.State.{State}
-use Rattle.machine.specs.State.{still, zeros, stateBad}
-use Rattle.machine.specs.Step.{moved, answered, freshNumber, freshOf}
-use Rattle.machine.specs.StepLaws.{checked-sound, checked-refused, answered-own, answered-is}
+use Rattle.steps.specs.declared.State.{State}
+use Rattle.steps.specs.State.{still, zeros, stateBad}
+use Rattle.steps.specs.Step.{moved, answered, freshNumber, freshOf}
+use Rattle.steps.specs.StepLaws.{checked-sound, checked-refused, answered-own, answered-is}
 use Rattle.machine.proofs.fresh.Statement.{statement}
 use Rattle.machine.proofs.fresh.Tie as tie
 

@@ -7,9 +7,9 @@ use mir.Facts.{toZ-ofZ}
 use borrow.Author.Needs.{needs}
 use Rattle.book.specs.Check.{Sound}
 use Rattle.book.specs.Sound.{parts}
-use Rattle.machine.specs.Step.{renewed, postNumber, postOf}
-use Rattle.machine.specs.StepLaws.{checked-sound, checked-refused, answered-own, answered-is}
-use Rattle.machine.specs.PostLaws.{posting}
+use Rattle.steps.specs.Step.{renewed, postNumber, postOf}
+use Rattle.steps.specs.StepLaws.{checked-sound, checked-refused, answered-own, answered-is}
+use Rattle.steps.specs.PostLaws.{posting}
 use Rattle.machine.proofs.post.Statement.{statement}
 use Rattle.machine.proofs.post.Tie as tie
 

@@ -5,7 +5,7 @@ use lib.Dec.{leb}
 use mir.Facts.{toZ-ofZ}
 use borrow.Author.Needs.{needs}
 use Rattle.rule.specs.Numbers.{outOfRange}
-use Rattle.machine.specs.Step.{postNumber}
+use Rattle.steps.specs.Step.{postNumber}
 use Rattle.machine.proofs.post_number.Statement.{statement}
 use Rattle.machine.proofs.post_number.Tie as tie
 

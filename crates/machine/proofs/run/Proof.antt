@@ -6,7 +6,7 @@ use borrow.Author.Needs.{needs}
 use Rattle.book.specs.declared.Answer.{Answer}
 use Rattle.book.specs.Check.{Sound}
 use Rattle.book.specs.Sound.{parts, sound-by}
-use Rattle.machine.specs.Run.{runOf}
+use Rattle.steps.specs.Run.{runOf}
 use Rattle.machine.proofs.run.Statement.{statement}
 use Rattle.machine.proofs.run.Tie as tie
 

@@ -4,8 +4,8 @@ use lib.ListN.{length}
 use borrow.Author.Needs.{needs}
 use Rattle.book.specs.Check.{Sound}
 use Rattle.book.specs.Sound.{parts}
-use Rattle.machine.specs.Step.{effect, stepNumber, stepOf}
-use Rattle.machine.specs.StepLaws.{checked-sound, checked-refused, answered-own, answered-is, Stepping, stepping}
+use Rattle.steps.specs.Step.{effect, stepNumber, stepOf}
+use Rattle.steps.specs.StepLaws.{checked-sound, checked-refused, answered-own, answered-is, Stepping, stepping}
 use Rattle.machine.proofs.step.Statement.{statement}
 use Rattle.machine.proofs.step.Tie as tie
 

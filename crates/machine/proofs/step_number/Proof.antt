@@ -9,8 +9,8 @@ use borrow.Author.Needs.{needs}
 use Rattle.mask.specs.SearchLaws.{some-same}
 use Rattle.mask.specs.Mask.{has}
 use Rattle.book.specs.Table.{goesBefore}
-use Rattle.machine.specs.State.{waits, held}
-use Rattle.machine.specs.Step.{stepNumber}
+use Rattle.steps.specs.State.{waits, held}
+use Rattle.steps.specs.Step.{stepNumber}
 use Rattle.machine.proofs.step_number.Statement.{statement}
 use Rattle.machine.proofs.step_number.Tie as tie
 

@@ -8,10 +8,10 @@ use borrow.Author.Needs.{needs}
 use Rattle.mask.specs.SearchLaws.{some-same, least-same}
 use Rattle.mask.specs.Mask.{has, lowest}
 use Rattle.book.specs.Table.{goesBefore}
-use Rattle.machine.specs.State.{Fits, waits, held, eligible, lowestOf}
-use Rattle.machine.specs.EffectLaws.{effect-fits}
-use Rattle.machine.specs.RunLaws.{Stands, stands-start, stands-turn, stands-done, stands-spent}
-use Rattle.machine.specs.EligibleLaws.{lowest-below}
+use Rattle.steps.specs.State.{Fits, waits, held, eligible, lowestOf}
+use Rattle.steps.specs.EffectLaws.{effect-fits}
+use Rattle.steps.specs.RunLaws.{Stands, stands-start, stands-turn, stands-done, stands-spent}
+use Rattle.steps.specs.EligibleLaws.{lowest-below}
 use Rattle.machine.proofs.running.runs.Statement.{statement}
 use Rattle.machine.proofs.running.runs.Tie as tie
 

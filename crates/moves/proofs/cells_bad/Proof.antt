@@ -1,0 +1,66 @@
+-- Of the cells passed, one does not fit exactly when `bad`.
+use Prim.Native.Nat.{_≤_, _-_}
+use mathlib.Core.Path.{ap₂, ap, _∙_}
+use lib.Dec.{ltb}
+use mir.Syntax.{w64}
+use mir.Val.{SFits}
+use mir.Facts.{toZ-ofZ}
+use borrow.Author.Needs.{needs, sfits-of}
+use Rattle.mask.specs.Loops.{Sought, sought-none, sought-more, sought-all}
+use Rattle.rule.specs.Numbers.{notZeroZ, outOfRange, slotted}
+use Rattle.amounts.specs.Amounts.{at}
+use Rattle.steps.specs.State.{cellBad}
+use Rattle.moves.proofs.cells_bad.Statement.{statement}
+use Rattle.moves.proofs.cells_bad.Tie as tie
+
+abbrev Inv-loop : tie.InvT-loop
+Inv-loop k cells bad₀ c₀ bad c = (c ≤ 32) × Sought (cellBad k cells) c bad
+
+abbrev μ-loop : tie.MeasureT-loop
+μ-loop k cells bad₀ c₀ bad c = 32 - c
+
+loop-holds : tie.Need-loop-holds Inv-loop μ-loop
+loop-holds c = (search needs, sought-none)
+
+mul-v : tie.Need-mul-v Inv-loop μ-loop
+mul-v c = search needs
+
+array-copy-out-v : tie.Need-array-copy-out-v Inv-loop μ-loop
+array-copy-out-v c = search needs
+
+out-of-range-requires : tie.Need-out-of-range-requires Inv-loop μ-loop
+out-of-range-requires c κs = search needs
+
+add-c : tie.Need-add-c Inv-loop μ-loop
+add-c c = search needs
+
+loop-less : tie.Need-loop-less Inv-loop μ-loop
+loop-less c = search needs
+
+loop-again : tie.Need-loop-again Inv-loop μ-loop
+loop-again c =
+    let l = c .before .before .before .loop in
+    let v : SFits w64 (at (c .before .before .before .before .args .t1) (l .c)) = sfits-of (c .before .v .given) in (
+      search needs,
+      sought-more (l .inv .1)
+          (ap₂ (slotted (ltb (l .c) (c .before .before .before .before .args .k)))
+          (c .out-of-range .ensures ∙ ap outOfRange (toZ-ofZ v)) (ap notZeroZ (toZ-ofZ v))),
+    )
+
+returns : tie.Need-returns Inv-loop μ-loop
+returns c = sought-all (c .before .loop .inv .1) (c .before .loop .inv .0) (c .loop-test .left)
+
+pub cells-bad-spec : {M : Type 1} → statement M
+cells-bad-spec =
+    tie.close
+    (tie.spec
+    Inv-loop
+    μ-loop
+    loop-holds
+    mul-v
+    array-copy-out-v
+    out-of-range-requires
+    add-c
+    loop-less
+    loop-again
+    returns)

@@ -1,0 +1,22 @@
+-- "a waiting rule goes before it": what it is that none does. Assumes nothing.
+use mathlib.Core.Path.{_≡_, refl, sym, ap₂, _∙_}
+use mathlib.Core.Bool.{Bool, true, false, _&&_, false≢true}
+use Prim.Native.Nat.{ℕ, _<_}
+use Rattle.mask.specs.SearchLaws.{some-none, some-false, and-true-both}
+use Rattle.book.specs.declared.Table.{Table}
+use Rattle.book.specs.Table.{goesBefore}
+use Rattle.steps.specs.declared.State.{State}
+use Rattle.steps.specs.State.{waits, held}
+
+module _ (t : Table) (s : State) (r : ℕ) where
+  pub free : held t s r ≡ false → (x : ℕ) → x < 32 → waits s x ≡ true → goesBefore t x r ≡ true → ⊥
+  unfolding held
+  free e x l w b = false≢true (sym (some-false 32 (λ y. waits s y && goesBefore t y r) e x l) ∙ ap₂ _&&_ w b)
+
+  pub free-by : ((x : ℕ) → x < 32 → waits s x ≡ true → goesBefore t x r ≡ true → ⊥) → held t s r ≡ false
+  unfolding held
+  free-by h = some-none 32 (λ y. waits s y && goesBefore t y r) (λ x l. none x l (waits s x && goesBefore t x r) refl)
+    where
+      none : (x : ℕ) → x < 32 → (b : Bool) → (waits s x && goesBefore t x r) ≡ b → (waits s x && goesBefore t x r) ≡ false
+      none x l true q = let p = and-true-both (waits s x) (goesBefore t x r) q in absurd (h x l (p .0) (p .1))
+      none x l false q = q

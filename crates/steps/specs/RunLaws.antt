@@ -1,0 +1,151 @@
+-- The run is the iteration of the step on the lowest-numbered eligible rule, and counts those steps. Assumes nothing.
+use mathlib.Core.Path.{_≡_, refl, sym, ap, _∙_, subst}
+use mathlib.Core.Bool.{cond}
+use Prim.Native.Nat.{ℕ, zero, suc, _+_, _-_, _<_, _≤_}
+use native.Mathlib.Decide.{ℕ-discrete}
+use native.Mathlib.Omega.{arith}
+use lib.Dec.{eqb·suc-zero}
+use borrow.Author.Tests.{eq-eqb, ne-eqb}
+use Rattle.rule.specs.Numbers.{notZero}
+use Rattle.book.specs.declared.Table.{Table}
+use Rattle.book.specs.declared.Answer.{Answer}
+use Rattle.book.specs.Sound.{sound-by}
+use Rattle.book.specs.Check.{checkOf, Sound}
+use Rattle.steps.specs.declared.State.{State}
+use Rattle.steps.specs.declared.Ran.{Ran}
+use Rattle.steps.specs.State.{stateBad, Fits, lowestOf}
+use Rattle.steps.specs.Step.{moved, stepOf}
+use Rattle.steps.specs.EffectLaws.{effect-fits}
+use Rattle.steps.specs.StepLaws.{step-is}
+use Rattle.steps.specs.EligibleLaws.{lowest-eligible, lowest-below}
+use Rattle.steps.specs.Run.{ran, next, later, runs, runOf}
+
+-- ---- one step of a run
+
+later-none : (x : Ran) → x ≡ later 0 x
+later-none x = ap (ran (x .number) (x .place) (x .state)) (omega arith)
+
+later-more : (n : ℕ) (x : Ran) → later n (later 1 x) ≡ later (n + 1) x
+later-more n x = ap (ran (x .number) (x .place) (x .state)) (omega arith)
+
+pub runs-none : (t : Table) (s : State) (budget : ℕ) → s .waiting ≡ 0 → runs t s budget ≡ ran 0 255 s 0
+unfolding runs
+runs-none t s zero e = rw (eq-eqb (s .waiting) 0 e)
+runs-none t s (suc budget) e = rw (eq-eqb (s .waiting) 0 e)
+
+pub runs-spent : (t : Table) (s : State) → (s .waiting ≡ 0 → ⊥) → runs t s 0 ≡ ran 15 255 s 0
+unfolding runs
+runs-spent t s ne = rw (ne-eqb (s .waiting) 0 ne)
+
+pub runs-more : (t : Table) (s : State) (budget : ℕ) → (s .waiting ≡ 0 → ⊥)
+    → runs t s (suc budget) ≡ later 1 (runs t (next t s) budget)
+unfolding runs
+runs-more t s budget ne = rw (ne-eqb (s .waiting) 0 ne)
+
+-- ---- a run is steps of the lowest-numbered eligible rule
+
+-- n calls of the step, one after another, each done and each on that rule
+pub data Steps (t : Table) : State → ℕ → State → Type 0 where
+  none : {s : State} → Steps t s 0 s
+  more : {s u : State} {n : ℕ} → stepOf t s (lowestOf t s) ≡ moved 0 255 (next t s) → Steps t (next t s) n u
+      → Steps t s (suc n) u
+
+-- how a run ends: nothing waits, or the budget is used while something waits
+pub data Ended (budget : ℕ) (x : Ran) : Type 0 where
+  done : x .number ≡ 0 → x .steps ≤ budget → x .state .waiting ≡ 0 → Ended budget x
+  spent : x .number ≡ 15 → x .steps ≡ budget → (x .state .waiting ≡ 0 → ⊥) → Ended budget x
+
+pub record Runs (t : Table) (s : State) (budget : ℕ) (x : Ran) : Type 0 where
+  pub steps : Steps t s (x .steps) (x .state)
+  pub fits : Fits t (x .state)
+  pub place : x .place ≡ 255
+  pub ended : Ended budget x
+
+one-later : {t : Table} {s : State} {budget : ℕ} {x : Ran} → stepOf t s (lowestOf t s) ≡ moved 0 255 (next t s)
+    → Runs t (next t s) budget x → Runs t s (suc budget) (later 1 x)
+one-later {t} {s} {budget} {x} e h =
+    record {
+      steps = subst (λ (n : ℕ). Steps t s n (x .state)) (omega arith) (more e (h .steps));
+      fits = h .fits;
+      place = h .place;
+      ended = end (h .ended);
+    }
+  where
+    end : Ended budget x → Ended (suc budget) (later 1 x)
+    end (done a b c) = done a (omega arith) c
+    end (spent a b c) = spent a (omega arith) c
+
+runs-still : (t : Table) (s : State) (budget : ℕ) → Fits t s → s .waiting ≡ 0 → Runs t s budget (runs t s budget)
+runs-still t s budget h e =
+    subst (Runs t s budget) (sym (runs-none t s budget e))
+    (record { steps = none; fits = h; place = refl; ended = done refl (omega arith) e })
+
+pub runs-steps : (t : Table) (s : State) (budget : ℕ) → Sound t → Fits t s → Runs t s budget (runs t s budget)
+runs-steps t s zero sd h = pick (ℕ-discrete (s .waiting) 0)
+  where
+    pick : Dec (s .waiting ≡ 0) → Runs t s 0 (runs t s 0)
+    pick (yes e) = runs-still t s 0 h e
+    pick (no ne) =
+        subst (Runs t s 0) (sym (runs-spent t s ne))
+        (record { steps = none; fits = h; place = refl; ended = spent refl refl ne })
+runs-steps t s (suc budget) sd h = pick (ℕ-discrete (s .waiting) 0) (runs-steps t (next t s) budget sd)
+  where
+    pick : Dec (s .waiting ≡ 0) → (Fits t (next t s) → Runs t (next t s) budget (runs t (next t s) budget))
+        → Runs t s (suc budget) (runs t s (suc budget))
+    pick (yes e) rest = runs-still t s (suc budget) h e
+    pick (no ne) rest =
+        let l : lowestOf t s < t .n = lowest-below t s sd h ne in
+        subst (Runs t s (suc budget)) (sym (runs-more t s budget ne))
+        (one-later (step-is t s (lowestOf t s) sd h l (lowest-eligible t s sd h ne .1))
+        (rest (effect-fits t s (lowestOf t s) sd h l)))
+
+-- ---- the call
+
+module _ (t : Table) (s : State) (budget : ℕ) where
+  pub run-is : Sound t → Fits t s → runOf t s budget ≡ runs t s budget
+  unfolding runOf
+  run-is sd h = rw (ap (λ (a : Answer). a .number) (sd .checked), h .good)
+
+  -- Fits is kept, done or refused
+  pub run-fits : Fits t s → Fits t (runOf t s budget .state)
+  unfolding runOf
+  run-fits h = pick (checkOf t .number) refl
+    where
+      pick : (a : ℕ) → checkOf t .number ≡ a
+          → Fits t (cond (notZero a) (ran a (checkOf t .place) s 0)
+          (cond (stateBad t s) (ran 11 255 s 0) (runs t s budget)) .state)
+      pick zero e = rw (h .good) (runs-steps t s budget (sound-by t e) h .fits)
+      pick (suc a) e = rw (eqb·suc-zero a) h
+
+-- ---- a run that has taken some of its steps
+
+-- from s with this budget, the run stands at `now` after `steps`
+pub record Stands (t : Table) (s : State) (budget : ℕ) (now : State) (steps : ℕ) : Type 0 where
+  pub is : runs t s budget ≡ later steps (runs t now (budget - steps))
+
+module _ (t : Table) (s : State) (budget : ℕ) where
+  pub stands-start : Stands t s budget s 0
+  stands-start = record { is = later-none (runs t s budget) ∙ ap (λ (n : ℕ). later 0 (runs t s n)) (omega arith) }
+
+  pub stands-turn : (now : State) (steps : ℕ) → steps < budget → (now .waiting ≡ 0 → ⊥) → Stands t s budget now steps
+      → Stands t s budget (next t now) (steps + 1)
+  stands-turn now steps l ne h =
+      let e : budget - steps ≡ suc (budget - (steps + 1)) = omega arith in
+      record {
+        is =
+            h .is ∙ ap (λ (n : ℕ). later steps (runs t now n)) e
+            ∙ ap (later steps) (runs-more t now (budget - (steps + 1)) ne)
+            ∙ later-more steps (runs t (next t now) (budget - (steps + 1)));
+      }
+
+  pub stands-done : (now : State) (steps : ℕ) → now .waiting ≡ 0 → Stands t s budget now steps
+      → runs t s budget ≡ ran 0 255 now steps
+  stands-done now steps e h =
+      h .is ∙ ap (later steps) (runs-none t now (budget - steps) e) ∙ ap (ran 0 255 now) (omega arith)
+
+  pub stands-spent : (now : State) (steps : ℕ) → (now .waiting ≡ 0 → ⊥) → steps ≡ budget → Stands t s budget now steps
+      → runs t s budget ≡ ran 15 255 now steps
+  stands-spent now steps ne e h =
+      let z : budget - steps ≡ 0 = omega arith in
+      h .is ∙ ap (λ (n : ℕ). later steps (runs t now n)) z ∙ ap (later steps) (runs-spent t now ne)
+      ∙ ap (ran 15 255 now) (omega arith)
