@@ -1,4 +1,5 @@
--- What the contracts of `rule` cite: `Fill`, `Empty` and `Uses` say what a rule is and uses, `Numbers` what is wrong with one.
+-- What the contracts of `rule`, `fields` and `numbers` cite: `Fill`, `Empty` and `Uses` say what a rule is and uses, `Numbers` what is
+-- wrong with one.
 pub mod Fill
 pub mod Empty
 pub mod Uses

@@ -1,4 +1,4 @@
--- What the contracts of `machine` cite: `State`, `Step` and `Run` are the definitions, the others their laws.
+-- What the contracts of `moves` and `machine` cite: `State`, `Step` and `Run` are the definitions, the others their laws.
 pub mod State
 pub mod Step
 pub mod Run

@@ -58,8 +58,8 @@ fn writes_from_c() {
     let answers = RefCell::new(Answers::start());
     let mut sizes = Tally::new("sizes, from C on the archive delivered");
     let mut tally = Tally::new("writes, from C on the archive delivered");
-    compare_writes(Some(&answers), &mut sizes, &mut tally, 250);
-    sizes.close(250, &[0, 7], 1);
+    compare_writes(Some(&answers), &mut sizes, &mut tally, 500);
+    sizes.close(500, &[0, 7], 1);
     tally.close(1_000, &[0, 7, 18], 5);
 }
 

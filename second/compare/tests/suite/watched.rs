@@ -40,8 +40,8 @@ fn states_and_writes_under_valgrind() {
     compare_steps(Some(&answers), &mut tally, 100);
     compare_postings(Some(&answers), &mut tally, 250);
     compare_runs(Some(&answers), &mut tally, 250);
-    compare_writes(Some(&answers), &mut sizes, &mut tally, 100);
-    sizes.close(100, &[0], 1);
+    compare_writes(Some(&answers), &mut sizes, &mut tally, 200);
+    sizes.close(200, &[0], 1);
     tally.close(1_650, &[0, 11, 13, 18], 5);
 }
 
