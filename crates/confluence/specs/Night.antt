@@ -31,7 +31,7 @@ use Rattle.steps.specs.Step.{stepOf, moved}
 use Rattle.steps.specs.StepLaws.{Stepping, step-done}
 use Rattle.confluence.specs.Permitted.{after, Permitted, Still, Held}
 use Rattle.confluence.specs.Demand.{OneEnd, demand-3, cleared-by}
-use Rattle.confluence.specs.Worked.{night, state, evening, twins, both, other, facts}
+use Rattle.steps.specs.Worked.{night, state, evening, twins, both, other, facts}
 
 -- ---- a done step in an order
 

@@ -1,7 +1,9 @@
--- What the contracts of `moves` and `machine` cite: `State`, `Step` and `Run` are the definitions, the others their laws.
+-- What the contracts of `moves` and `machine` cite: `State`, `Step` and `Run` are the definitions, the others their laws; `Worked`
+-- has steps that are computed, those of two books for `confluence`.
 pub mod State
 pub mod Step
 pub mod Run
+pub mod Worked
 pub mod ReadyLaws
 pub mod StateLaws
 pub mod EffectLaws

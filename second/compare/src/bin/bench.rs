@@ -31,6 +31,8 @@ fn main() {
     line("report 32 rules dense", report(&dense(), 1));
     line("rewrite full", rewrite(&full_table()));
     line("rewrite night", rewrite(&night()));
+    line("step chain", step(&chain()));
+    line("step night", step(&night()));
     for (name, table, waiting, steps) in [
         ("chain", chain(), 1, 31),
         ("sparse", sparse(), u32::MAX, 32),
@@ -110,13 +112,30 @@ fn report(table: &Table, calls: usize) -> (f64, f64) {
     )
 }
 
+/// All amounts 0, and these rules wait.
+fn start_with(waiting: u32) -> State {
+    State {
+        waiting,
+        ..State::default()
+    }
+}
+
+/// One step, on rule 0.
+fn step(table: &Table) -> (f64, f64) {
+    let bytes = bytes_of(table);
+    let start = start_with(1);
+    let lent = state_bytes(&start);
+    medians(
+        10,
+        || border::step(black_box(&bytes), &mut lent.clone(), 0),
+        || u32::from(second::machine::step(table, black_box(&start), 0).0),
+    )
+}
+
 /// From these rules waiting until none waits, in so many steps.
 fn run(table: &Table, waiting: u32, budget: u32) -> (f64, f64) {
     let bytes = bytes_of(table);
-    let start = State {
-        waiting,
-        ..State::default()
-    };
+    let start = start_with(waiting);
     let lent = state_bytes(&start);
     let mut steps = 0;
     let times = medians(

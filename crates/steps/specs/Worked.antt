@@ -1,4 +1,5 @@
--- Two books computed for the account: the night book, and two rules that write one cell alike. Assumes nothing.
+-- Steps computed on the definitions: of the night book, of two rules that write one cell alike, of a fault and of a test. Assumes
+-- nothing.
 use mathlib.Core.Path.{_≡_, refl}
 use mathlib.Core.List.{List, [], _∷_, _++_}
 use Prim.Native.Nat.{ℕ, _-_}
@@ -16,11 +17,11 @@ use Rattle.book.specs.declared.Table.{Table}
 use Rattle.book.specs.Table as Table
 use Rattle.book.specs.Check as Check
 use Rattle.amounts.specs.Amounts as Amounts
 use Rattle.steps.specs.declared.State.{State}
 use Rattle.steps.specs.State as State
-use Rattle.steps.specs.State.{Fits}
+use Rattle.steps.specs.State.{Fits, lowestOf}
 use Rattle.steps.specs.Step as Step
 use Rattle.steps.specs.Step.{moved, stepOf}
 
 -- an assignment to a cell: cell a + k; and k alone
 abbrev pub plus : ℕ → ℕ → ℤ → Assign
@@ -76,7 +77,44 @@ both = state (pos 5) (pos 0) (pos 0) 3 0
 abbrev pub other : ℕ → State
 other waiting = state (pos 5) (pos 7) (pos 0) waiting 0
 
+-- "+ 1 is a fault mark and no cell changes": one rule adds 1 to cell 0
+abbrev pub full : Table
+full = record { n = 1; k = 1; rules = plain 0 0 1 (plus 0 0 (pos 1) ∷ []) 97 ∷ replicate 31 noRule }
+
+-- one rule sets cell 0 to 1 where it is 0
+abbrev pub once : Table
+once =
+    record {
+      n = 1;
+      k = 1;
+      rules =
+          record {
+            watch = 0;
+            precedes = 0;
+            t = 1;
+            a = 1;
+            m = 1;
+            zero = 0;
+            tests = replicate 8 noTest;
+            assigns = constant 0 1 ∷ replicate 7 noAssign;
+            name = 97 ∷ replicate 15 0;
+          }
+          ∷ replicate 31 noRule;
+    }
+
+-- one cell: its amount, who waits, the fault marks
+abbrev pub alone : ℤ → ℕ → ℕ → State
+alone v waiting faults = state v (pos 0) (pos 0) waiting faults
+
 pub record Facts : Type 0 where
+  -- "r gets a fault mark and no cell changes"
+  pub fault : stepOf full (alone (pos 1000000000000) 1 0) 0 ≡ moved 0 255 (alone (pos 1000000000000) 0 1)
+  -- the test is judged on the amount before the step
+  pub test-first : stepOf once (alone (pos 0) 1 0) 0 ≡ moved 0 255 (alone (pos 1) 0 0)
+  -- "Stepping a rule that isn't waiting: 13, even if a waiting rule goes before it."
+  pub asleep : stepOf night (state (pos 5) (pos 6) (pos 0) 6 0) 0 ≡ moved 13 255 (state (pos 5) (pos 6) (pos 0) 6 0)
+  -- "the lowest-numbered eligible rule"
+  pub lowest : lowestOf night evening ≡ 0
   pub evening-fits : Fits night evening
   pub both-fits : Fits twins both
   -- rules 0, 2, 1
@@ -97,10 +135,15 @@ pub facts : Facts
 unfolding stepOf Step.answered Step.stepNumber Step.effect Step.rested Step.marked Step.renewed Step.wakes State.stateBad State.held
     Check.checkOf Check.sizesBad Check.numberAt Check.firstBad Check.firstSlot Check.cyclic Table.goesBefore Graph.leads Search.some
     Search.least Mask.has Mask.beyond Mask.maskOf Numbers.countsBad Numbers.cellsBad Numbers.formsBad Numbers.twice
-    Numbers.lettersBad Numbers.nameTaken Numbers.sameName Numbers.ruleNumber Numbers.ruleSlotBad Amounts.anyFalse Amounts.anyOut
+    Numbers.lettersBad Numbers.nameTaken Numbers.sameName Numbers.ruleNumber Numbers.ruleSlotBad Amounts.compares Amounts.holds Amounts.anyFalse
+    Amounts.anyOut
     Amounts.valueOf Amounts.operated Amounts.storedBy
 facts =
     record {
+      fault = refl;
+      test-first = refl;
+      asleep = refl;
+      lowest = refl;
       evening-fits = record { long = refl; waiting = lit< tt; faults = lit< tt; good = refl };
       both-fits = record { long = refl; waiting = lit< tt; faults = lit< tt; good = refl };
       night-0 = refl;
