@@ -11,7 +11,7 @@ use Rattle.rule.specs.declared.Rule.{Rule}
 use Rattle.rule.specs.Empty.{blankRule}
 use Rattle.book.specs.declared.Table.{Table}
 use Rattle.book.specs.Table.{ruleAt}
-use Rattle.book.specs.Check.{answer, checkOf}
+use Rattle.book.specs.Check.{checkOf}
 use Rattle.judging.specs.declared.Report.{Report}
 use Rattle.judging.specs.declared.Bound.{Bound}
 use Rattle.analysis.specs.Says.{ReportSays, BoundSays}
@@ -27,14 +27,14 @@ pub record ReportCrosses (t : Table) (out : List ℕ) (code : ℕ) : Type 0 wher
   pub report : Report
   pub says : ReportSays t report
   pub bytes : out ≡ reportBytes report
-  pub returned : code ≡ codeOf (answer (report .number) (report .place))
+  pub returned : code ≡ codeOf (report .number) (report .place)
 
 -- the same for the step bound of a set
 pub record BoundCrosses (t : Table) (set out code : ℕ) : Type 0 where
   pub bound : Bound
   pub says : BoundSays t set bound
   pub value : out ≡ bound .bound
-  pub returned : code ≡ codeOf (answer (bound .number) (bound .place))
+  pub returned : code ≡ codeOf (bound .number) (bound .place)
 
 -- ---- no byte is left open: they are those of every report that the analysis promises
 
@@ -45,8 +45,8 @@ module _ (t : Table) (out : List ℕ) (code : ℕ) (x : ReportCrosses t out code
   pub report-bytes : out ≡ reportBytes r
   report-bytes = x .bytes ∙ ap reportBytes same-report
 
-  pub report-code : code ≡ codeOf (answer (r .number) (r .place))
-  report-code = x .returned ∙ ap (λ (r : Report). codeOf (answer (r .number) (r .place))) same-report
+  pub report-code : code ≡ codeOf (r .number) (r .place)
+  report-code = x .returned ∙ ap (λ (r : Report). codeOf (r .number) (r .place)) same-report
 
 pub report-determined : (t : Table) (out other : List ℕ) (code next : ℕ) → ReportCrosses t out code
     → ReportCrosses t other next → (out ≡ other) × (code ≡ next)
@@ -80,8 +80,8 @@ module _ (s : List ℕ) (b : Bytes s) (size : length s ≡ 9092) (set out code :
   pub bound-value : out ≡ y .bound
   bound-value = x .value ∙ ap (λ (y : Bound). y .bound) same-bound
 
-  pub bound-code : code ≡ codeOf (answer (y .number) (y .place))
-  bound-code = x .returned ∙ ap (λ (y : Bound). codeOf (answer (y .number) (y .place))) same-bound
+  pub bound-code : code ≡ codeOf (y .number) (y .place)
+  bound-code = x .returned ∙ ap (λ (y : Bound). codeOf (y .number) (y .place)) same-bound
 
 pub bound-determined : (s : List ℕ) → Bytes s → length s ≡ 9092 → (set out other code next : ℕ)
     → BoundCrosses (tableFrom s) set out code → BoundCrosses (tableFrom s) set other next → (out ≡ other) × (code ≡ next)

@@ -2,7 +2,6 @@
 use mathlib.Core.Path.{_≡_}
 use mathlib.Core.List.{List}
 use Prim.Native.Nat.{ℕ}
-use Rattle.book.specs.Check.{answer}
 use Rattle.steps.specs.declared.Moved.{Moved}
 use Rattle.steps.specs.declared.Ran.{Ran}
 use Rattle.states.specs.States.{stateBytes}
@@ -11,10 +10,10 @@ use Rattle.abi.specs.Code.{codeOf}
 -- the state's bytes and the code
 pub record MovedTo (m : Moved) (out : List ℕ) (code : ℕ) : Type 0 where
   pub bytes : out ≡ stateBytes (m .state)
-  pub returned : code ≡ codeOf (answer (m .number) (m .place))
+  pub returned : code ≡ codeOf (m .number) (m .place)
 
 -- the same of a run, with the steps taken
 pub record RanTo (x : Ran) (out : List ℕ) (steps code : ℕ) : Type 0 where
   pub bytes : out ≡ stateBytes (x .state)
   pub taken : steps ≡ x .steps
-  pub returned : code ≡ codeOf (answer (x .number) (x .place))
+  pub returned : code ≡ codeOf (x .number) (x .place)

@@ -2,7 +2,6 @@
 use mathlib.Core.Path.{_≡_, ap, _∙_}
 use mathlib.Core.List.{List}
 use Prim.Native.Nat.{ℕ}
-use Rattle.book.specs.Check.{answer}
 use Rattle.pairs.specs.declared.Masks.{Masks}
 use Rattle.judging.specs.declared.Report.{Report}
 use Rattle.editor.specs.Rows.{RowsSay}
@@ -15,7 +14,7 @@ pub record RowsCross (m : Masks) (out : List ℕ) (code : ℕ) : Type 0 where
   pub report : Report
   pub says : RowsSay m report
   pub bytes : out ≡ reportBytes report
-  pub returned : code ≡ codeOf (answer (report .number) (report .place))
+  pub returned : code ≡ codeOf (report .number) (report .place)
 
 -- ---- no byte is left open
 
@@ -26,5 +25,5 @@ module _ (m : Masks) (out : List ℕ) (code : ℕ) (x : RowsCross m out code) (r
   pub rows-bytes : out ≡ reportBytes r
   rows-bytes = x .bytes ∙ ap reportBytes same-rows
 
-  pub rows-code : code ≡ codeOf (answer (r .number) (r .place))
-  rows-code = x .returned ∙ ap (λ (r : Report). codeOf (answer (r .number) (r .place))) same-rows
+  pub rows-code : code ≡ codeOf (r .number) (r .place)
+  rows-code = x .returned ∙ ap (λ (r : Report). codeOf (r .number) (r .place)) same-rows

@@ -5,7 +5,7 @@ use Prim.Native.Nat.{ℕ, _≤_}
 use native.Mathlib.Decide.{ℕ-discrete}
 use native.Mathlib.Omega.{arith}
 use Rattle.book.specs.declared.Table.{Table}
-use Rattle.book.specs.Check.{answer, checkOf}
+use Rattle.book.specs.Check.{checkOf}
 use Rattle.book.specs.Sound.{sound-by}
 use Rattle.writer.specs.declared.Written.{Written}
 use Rattle.writer.specs.BookLaws.{largest}
@@ -17,12 +17,12 @@ use Rattle.abi.specs.Code.{codeOf}
 pub record WroteTo (w : Written × List ℕ) (out : List ℕ) (size code : ℕ) : Type 0 where
   pub bytes : out ≡ w .1
   pub written : size ≡ w .0 .length
-  pub returned : code ≡ codeOf (answer (w .0 .number) (w .0 .place))
+  pub returned : code ≡ codeOf (w .0 .number) (w .0 .place)
 
 -- the length of the book and the code
-pub record SizedTo (t : Table) (size code : ℕ) : Type 0 where
-  pub length : size ≡ sizeOf t
-  pub returned : code ≡ codeOf (checkOf t)
+pub record SizedTo (w : Written) (size code : ℕ) : Type 0 where
+  pub length : size ≡ w .length
+  pub returned : code ≡ codeOf (w .number) (w .place)
 
 -- ---- "The largest book is 9,220 bytes."
 
@@ -36,9 +36,9 @@ write-most t d = go (ℕ-discrete (writeOf t d .0 .number) 0)
         (largest t (sound-by t (w .checked)))
     go (no ne) = omega (arith, untouched t d ne .1)
 
-pub size-most : (t : Table) → sizeOf t ≤ 9220
+pub size-most : (t : Table) → sizeOf t .length ≤ 9220
 size-most t = go (ℕ-discrete (checkOf t .number) 0)
   where
-    go : Dec (checkOf t .number ≡ 0) → sizeOf t ≤ 9220
-    go (yes e) = omega (arith, size-done t e, largest t (sound-by t e))
-    go (no ne) = omega (arith, size-refused t ne)
+    go : Dec (checkOf t .number ≡ 0) → sizeOf t .length ≤ 9220
+    go (yes e) = rw (size-done t e) (largest t (sound-by t e))
+    go (no ne) = rw (size-refused t ne) (omega arith)

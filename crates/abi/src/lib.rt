@@ -7,8 +7,8 @@ ghost use Rattle.reader.specs.Read.{readOf};
 ghost use Rattle.steps.specs.Step.{freshOf, stepOf, postOf};
 ghost use Rattle.steps.specs.Run.{runOf};
 ghost use Rattle.states.specs.States.{cellsFrom, stateFrom};
-ghost use Rattle.writer.specs.Write.{writeOf};
-ghost use Rattle.abi.specs.Code.{codeOf, answerOf};
+ghost use Rattle.writer.specs.Write.{writeOf, sizeOf};
+ghost use Rattle.abi.specs.Code.{codeOf};
 ghost use Rattle.abi.specs.Analysed.{ReportCrosses, BoundCrosses};
 ghost use Rattle.abi.specs.Moves.{MovedTo, RanTo};
 ghost use Rattle.abi.specs.Writes.{WroteTo, SizedTo};
@@ -16,7 +16,6 @@ ghost use Rattle.abi.specs.Printed.{PrintedTo};
 ghost use Rattle.editor.specs.Rows.{rowMasks};
 ghost use Rattle.editor.specs.Bytes.{rowsIn};
 ghost use Rattle.abi.specs.Rowed.{RowsCross};
-use book::Answer;
 use steps::Moved;
 
 fn wide(x: u8) -> u32
@@ -26,36 +25,34 @@ fn wide(x: u8) -> u32
 }
 
 // What every call returns: 0 when done, else the number and its place.
-fn code(a: Answer) -> u32
-    ensures { λ r. ⌜ r ≡ codeOf a ⌝ }
+fn code(number: u8, place: u8) -> u32
+    ensures { λ r. ⌜ r ≡ codeOf number place ⌝ }
 {
-    if a.number == 0 {
+    if number == 0 {
         return 0;
     }
-    wide(a.number) + 256 * wide(a.place)
+    wide(number) + 256 * wide(place)
 }
 
 // Reads a book into a table.
 #[no_mangle]
 pub extern "C" fn gwaunidor_read(book: &[u8], table: &mut [u8; 9092]) -> u32
-    ensures { λ r. ⌜ r ≡ codeOf (answerOf (readOf (now (book .entry)))) ⌝ }
+    ensures { λ r. ⌜ r ≡ codeOf (readOf (now (book .entry)) .number) (readOf (now (book .entry)) .place) ⌝ }
     ensures { λ _. ⌜ now (table .exit) ≡ tableBytes (readOf (now (book .entry)) .table) ⌝ }
 {
     let r = reader::read(book);
     let t = r.table;
     memory::store(t, table);
-    code(Answer {
-        number: r.number,
-        place: r.place,
-    })
+    code(r.number, r.place)
 }
 
 // The checks that every call on a table makes first.
 #[no_mangle]
 pub extern "C" fn gwaunidor_check(table: &[u8; 9092]) -> u32
-    ensures { λ r. ⌜ r ≡ codeOf (checkOf (tableFrom (now (table .entry)))) ⌝ }
+    ensures { λ r. ⌜ r ≡ codeOf (checkOf (tableFrom (now (table .entry))) .number) (checkOf (tableFrom (now (table .entry))) .place) ⌝ }
 {
-    code(book::check(memory::load(table)))
+    let a = book::check(memory::load(table));
+    code(a.number, a.place)
 }
 
 // The report on a table.
@@ -65,10 +62,7 @@ pub extern "C" fn gwaunidor_report(table: &[u8; 9092], out: &mut [u8; 512]) -> u
 {
     let judged = analysis::report(memory::load(table));
     layouts::store_report(judged, out);
-    code(Answer {
-        number: judged.number,
-        place: judged.place,
-    })
+    code(judged.number, judged.place)
 }
 
 // The step bound of a set of rules.
@@ -78,10 +72,7 @@ pub extern "C" fn gwaunidor_bound(table: &[u8; 9092], set: u32, bound: &mut u32)
 {
     let b = analysis::bound(memory::load(table), set);
     *bound = b.bound;
-    code(Answer {
-        number: b.number,
-        place: b.place,
-    })
+    code(b.number, b.place)
 }
 
 // The state that came back, and what is returned with it.
@@ -90,10 +81,7 @@ fn give(m: Moved, state: &mut [u8; 264]) -> u32
 {
     let s = m.state;
     states::store_state(s, state);
-    code(Answer {
-        number: m.number,
-        place: m.place,
-    })
+    code(m.number, m.place)
 }
 
 // A fresh state from 32 amounts.
@@ -147,10 +135,7 @@ pub extern "C" fn gwaunidor_run(
     let reached = ran.state;
     states::store_state(reached, state);
     *steps = ran.steps;
-    code(Answer {
-        number: ran.number,
-        place: ran.place,
-    })
+    code(ran.number, ran.place)
 }
 
 // Writes a table as a book.
@@ -160,20 +145,17 @@ pub extern "C" fn gwaunidor_write(table: &[u8; 9092], out: &mut [u8], written: &
 {
     let w = writer::write(memory::load(table), out);
     *written = w.length as u32;
-    code(Answer {
-        number: w.number,
-        place: w.place,
-    })
+    code(w.number, w.place)
 }
 
 // How long a table's book is.
 #[no_mangle]
 pub extern "C" fn gwaunidor_size(table: &[u8; 9092], size: &mut u32) -> u32
-    ensures { λ r. ⌜ SizedTo (tableFrom (now (table .entry))) (now (size .exit)) r ⌝ }
+    ensures { λ r. ⌜ SizedTo (sizeOf (tableFrom (now (table .entry)))) (now (size .exit)) r ⌝ }
 {
-    let t = memory::load(table);
-    *size = writer::size(t) as u32;
-    code(book::check(t))
+    let sized = writer::size(memory::load(table));
+    *size = sized.length as u32;
+    code(sized.number, sized.place)
 }
 
 // The report program's lines for a book.
@@ -182,12 +164,8 @@ pub extern "C" fn gwaunidor_lines(book: &[u8], out: &mut [u8], written: &mut u32
     ensures { λ r. ⌜ PrintedTo (now (book .entry)) (now (out .entry)) (now (out .exit)) (now (written .exit)) r ⌝ }
 {
     let printed = lines::lines(book, out);
-    *written = printed as u32;
-    let told = reader::read(book);
-    code(Answer {
-        number: told.number,
-        place: told.place,
-    })
+    *written = printed.length as u32;
+    code(printed.number, printed.place)
 }
 
 // The report on the editor's row of records.
@@ -197,8 +175,5 @@ pub extern "C" fn gwaunidor_rows(rows: &[u8], out: &mut [u8; 512]) -> u32
 {
     let row = editor::report_of_bytes(rows);
     layouts::store_report(row, out);
-    code(Answer {
-        number: row.number,
-        place: row.place,
-    })
+    code(row.number, row.place)
 }

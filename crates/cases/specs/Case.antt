@@ -67,7 +67,7 @@ Holds (posts s cell value b) = postOf (tableOf s) zeros cell value ≡ moved 0 2
 Holds (runs s a budget b n) = runOf (tableOf s) a budget ≡ ran 0 255 b n
 Holds (commutes s i j) = commute (masksOf (tableOf s)) i j ≡ true
 Holds (bounds s set v) = (b : Bound) → BoundSays (tableOf s) set b → (b .number ≡ 0) × (b .bound ≡ v)
-Holds (prints s text) = (x : List ℕ) → TextOf s x → x ≡ letters text
+Holds (prints s text) = (x : List ℕ) → TextOf (readOf s) x → x ≡ letters text
 
 -- a row is the paper's sentence and the case
 abbrev pub Every : List (String × Case) → Type 0

@@ -48,7 +48,7 @@ unfolding fourLines pairsLine said
 four t r b = refl
 
 -- a book that is refused
-pub refused : (s : List ℕ) → eqb (readOf s .number) 0 ≡ false → (text : List ℕ) → TextOf s text
+pub refused : (s : List ℕ) → eqb (readOf s .number) 0 ≡ false → (text : List ℕ) → TextOf (readOf s) text
     → text ≡ refusedLine (readOf s .number) (readOf s .place)
 refused s e text p = p .refused (eqb-false (readOf s .number) 0 e)
 
@@ -73,7 +73,7 @@ module _ (s : List ℕ) (h : Sheet) (x : Answer) (w : Told s h x) where
   bound none set v fits sum b p = bound-is h (w .fair) x (w .says) none set v fits sum b (bounded set b p)
 
   printed : (set v : ℕ) → 2 ^ (tableOf s .n) - 1 ≡ set → ((b : Bound) → BoundSays (tableOf s) set b → b .bound ≡ v)
-      → (text : List ℕ) → TextOf s text → text ≡ fourLines (tableOf s) (reportFrom x) (boundFrom v)
+      → (text : List ℕ) → TextOf (readOf s) text → text ≡ fourLines (tableOf s) (reportFrom x) (boundFrom v)
   printed set v all sum text p =
       let q : FourLines (tableOf s) text = p .done (w .read) in
       q .is ∙ (four (tableOf s) (q .report) (q .bound)
@@ -83,11 +83,11 @@ module _ (s : List ℕ) (h : Sheet) (x : Answer) (w : Told s h x) where
   -- the lines of rules that end, with the step bound of all
   pub lines : x .1 ≡ 0 → (set v : ℕ) → 2 ^ (tableOf s .n) - 1 ≡ set → beyond set (h .n) ≡ false
       → total 32 set (weightOf (padded (h .trig)) (h .n)) ≡ v
-      → (text : List ℕ) → TextOf s text → text ≡ fourLines (tableOf s) (reportFrom x) (boundFrom v)
+      → (text : List ℕ) → TextOf (readOf s) text → text ≡ fourLines (tableOf s) (reportFrom x) (boundFrom v)
   lines none set v all fits sum = printed set v all (λ b p. bound none set v fits sum b p .1)
 
   -- the lines of rules of which r reaches itself
   pub endless-lines : (r : ℕ) → has (x .1) r ≡ true → (set : ℕ) → 2 ^ (tableOf s .n) - 1 ≡ set → beyond set (h .n) ≡ false
-      → (text : List ℕ) → TextOf s text → text ≡ fourLines (tableOf s) (reportFrom x) (boundFrom 0)
+      → (text : List ℕ) → TextOf (readOf s) text → text ≡ fourLines (tableOf s) (reportFrom x) (boundFrom 0)
   endless-lines r faulty set all fits =
       printed set 0 all (λ b p. bound-refused h (w .fair) x (w .says) r faulty set fits b (bounded set b p) .1)

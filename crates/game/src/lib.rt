@@ -25,11 +25,11 @@ pub fn step(t: Table, s: &mut State, r: u32) -> Answer
 pub fn post(t: Table, s: &mut State, cell: u32, value: i64) -> Answer
     ensures { λ a. ⌜ (now (s .exit) ≡ postOf t (now (s .entry)) cell value .state) × (a ≡ answerOf (postOf t (now (s .entry)) cell value)) ⌝ }
 {
-    let done = machine::post(t, *s, cell, value);
-    *s = done.state;
+    let posted = machine::post(t, *s, cell, value);
+    *s = posted.state;
     Answer {
-        number: done.number,
-        place: done.place,
+        number: posted.number,
+        place: posted.place,
     }
 }
 

@@ -7,11 +7,13 @@ use lib.Dec.{ltb}
 use lib.ListN.{length}
 use Rattle.endian.specs.Put.{put}
 use Rattle.book.specs.declared.Table.{Table}
+use Rattle.reader.specs.declared.Reading.{Reading}
 use Rattle.reader.specs.Read.{readOf}
 use Rattle.judging.specs.declared.Report.{Report}
 use Rattle.judging.specs.declared.Bound.{Bound}
 use Rattle.analysis.specs.Says.{ReportSays, BoundSays}
 use Rattle.lines.specs.declared.text.Text.{Text}
+use Rattle.lines.specs.declared.Printed.{Printed}
 use Rattle.lines.specs.Added.{said, Room}
 use Rattle.lines.specs.Text.{refusedLine, fourLines}
 
@@ -32,15 +34,25 @@ pub record Four (t : Table) (r : Text) : Type 0 where
   pub lines : FourLines t (said r)
   pub room : Room r 0
 
--- what is printed for a book
-pub record TextOf (s text : List ℕ) : Type 0 where
-  pub refused : (readOf s .number ≡ 0 → ⊥) → text ≡ refusedLine (readOf s .number) (readOf s .place)
-  pub done : readOf s .number ≡ 0 → FourLines (readOf s .table) text
+-- what is printed for a reading
+pub record TextOf (r : Reading) (text : List ℕ) : Type 0 where
+  pub refused : (r .number ≡ 0 → ⊥) → text ≡ refusedLine (r .number) (r .place)
+  pub done : r .number ≡ 0 → FourLines (r .table) text
 
--- "It reads a book .. and prints": the length r and the buffer e that a call gives for the book s and the buffer d
-pub record LinesSay (s d : List ℕ) (r : ℕ) (e : List ℕ) : Type 0 where
+-- the number and the place of a reading, and a length
+abbrev pub printedOf : Reading → ℕ → Printed
+printedOf r size = record { number = r .number; place = r .place; length = size }
+
+-- a text that says it
+pub record Told (r : Reading) (u : Text) : Type 0 where
+  pub text : TextOf r (said u)
+  pub room : Room u 0
+
+-- "It reads a book .. and prints": what a call gives for the book s and the buffer d, and the buffer e that it leaves
+pub record LinesSay (s d : List ℕ) (r : Printed) (e : List ℕ) : Type 0 where
   pub text : List ℕ
-  pub printed : TextOf s text
+  pub printed : TextOf (readOf s) text
   -- so a buffer of 512 bytes is never too short
   pub most : length text ≤ 512
-  pub laid : (r, e) ≡ laid d text
+  pub given : r ≡ printedOf (readOf s) (laid d text .0)
+  pub left : e ≡ laid d text .1

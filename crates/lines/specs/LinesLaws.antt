@@ -15,7 +15,8 @@ use Rattle.book.specs.Sound.{parts}
 use Rattle.reader.specs.declared.Reading.{Reading}
 use Rattle.reader.specs.Read.{readOf, tableIn}
 use Rattle.reader.specs.ReadLaws.{read-done}
-use Rattle.lines.specs.Lines.{LinesSay}
+use Rattle.lines.specs.declared.Printed.{Printed}
+use Rattle.lines.specs.Lines.{printedOf, LinesSay}
 
 -- a book that was read has at most 32 rules
 pub few-rules : (s : List ℕ) → readOf s .number ≡ 0 → readOf s .table .n ≤ 32
@@ -31,10 +32,8 @@ all-rules n set few h e =
     ext 32 set (2 ^ n - 1) h (omega arith) (λ i l. e i ∙ sym (has-ones n i))
 
 -- the length that is given lies in the buffer
-pub within : {s d : List ℕ} {r : ℕ} {e : List ℕ} → LinesSay s d r e → r ≤ length d
-within {s} {d} {r} {e} h =
-    subst (λ (x : ℕ). x ≤ length d) (sym (ap (λ (x : ℕ × List ℕ). x .0) (h .laid)))
-    (pick (ltb (length d) (length (h .text))) refl)
+pub within : {s d : List ℕ} {r : Printed} {e : List ℕ} → LinesSay s d r e → r .length ≤ length d
+within {s} {d} {r} {e} h = rw (h .given) (pick (ltb (length d) (length (h .text))) refl)
   where
     pick : (b : Bool) → ltb (length d) (length (h .text)) ≡ b
         → cond {A = ℕ × List ℕ} b (0, d) (length (h .text), put d 0 (h .text)) .0 ≤ length d
@@ -42,6 +41,8 @@ within {s} {d} {r} {e} h =
     pick false q = ltb-false (length d) (length (h .text)) q
 
 -- a buffer of 512 bytes always gets the text
-pub enough : {s d : List ℕ} {r : ℕ} {e : List ℕ} → (h : LinesSay s d r e) → 512 ≤ length d
-    → _≡_ {A = ℕ × List ℕ} (r, e) (length (h .text), put d 0 (h .text))
-enough {s} {d} h l = h .laid ∙ rw (le-ltb (length d) (length (h .text)) (omega (arith, h .most))) refl
+pub enough : {s d : List ℕ} {r : Printed} {e : List ℕ} → (h : LinesSay s d r e) → 512 ≤ length d
+    → (r ≡ printedOf (readOf s) (length (h .text))) × (e ≡ put d 0 (h .text))
+enough {s} {d} h l =
+    let fits = le-ltb (length d) (length (h .text)) (omega (arith, h .most)) in
+    (h .given ∙ rw fits refl, h .left ∙ rw fits refl)

@@ -15,7 +15,8 @@ use Rattle.reader.specs.Read.{nOf, startOf, tableIn, readOf}
 use Rattle.reader.specs.ReadLaws.{bodyIn, read-done}
 use Rattle.analysis.specs.SaysLaws.{report-unique, bound-of-unique}
 use Rattle.lines.specs.Text.{fourLines}
-use Rattle.lines.specs.Lines.{laid, FourLines, TextOf, LinesSay}
+use Rattle.lines.specs.declared.Printed.{Printed}
+use Rattle.lines.specs.Lines.{laid, FourLines, TextOf, printedOf, LinesSay}
 
 -- the precedes masks of a table have 32 bits
 abbrev Narrow : Table → Type 0
@@ -43,13 +44,16 @@ module _ (s : List ℕ) (bytes : Bytes s) where
       subst (λ (r : Rule). r .precedes < 2 ^ 32) (sym (getD-filled 32 noRule (bodyIn s) (nOf s) blankRule i l))
       (mask-small i))
 
-  pub text-unique : {a b : List ℕ} → TextOf s a → TextOf s b → a ≡ b
+  pub text-unique : {a b : List ℕ} → TextOf (readOf s) a → TextOf (readOf s) b → a ≡ b
   text-unique {a} {b} p q = go (ℕ-discrete (readOf s .number) 0)
     where
       go : Dec (readOf s .number ≡ 0) → a ≡ b
       go (yes e) = four-unique (readOf s .table) (narrow e) (p .done e) (q .done e)
       go (no ne) = p .refused ne ∙ sym (q .refused ne)
 
-  pub lines-unique : (d : List ℕ) {r n : ℕ} {e f : List ℕ} → LinesSay s d r e → LinesSay s d n f
-      → _≡_ {A = ℕ × List ℕ} (r, e) (n, f)
-  lines-unique d p q = p .laid ∙ (ap (laid d) (text-unique (p .printed) (q .printed)) ∙ sym (q .laid))
+  pub lines-unique : (d : List ℕ) {r n : Printed} {e f : List ℕ} → LinesSay s d r e → LinesSay s d n f → (r ≡ n) × (e ≡ f)
+  lines-unique d p q =
+      let same = text-unique (p .printed) (q .printed) in (
+        p .given ∙ (ap (λ (x : List ℕ). printedOf (readOf s) (laid d x .0)) same ∙ sym (q .given)),
+        p .left ∙ (ap (λ (x : List ℕ). laid d x .1) same ∙ sym (q .left)),
+      )

@@ -1,15 +1,23 @@
 // The report program's text: four lines for a book, or one where it is refused.
+ghost use mathlib.Core.Path.{_≡_};
 ghost use Prim.Native.Nat.{_≤_};
 ghost use lib.ListN.{length};
 ghost use Rattle.lines.specs.Text.{numbered, endsLine, pairsLine, clearedLine};
 ghost use Rattle.lines.specs.Added.{Room, Added};
-ghost use Rattle.lines.specs.Lines.{Four, LinesSay};
+ghost use Rattle.lines.specs.Lines.{Four, Told, LinesSay};
 
 mod text;
 
 use book::Table;
 use judging::Report;
+use reader::Reading;
 use text::Text;
+
+pub struct Printed {
+    pub number: u8,
+    pub place: u8,
+    pub length: usize,
+}
 
 // A line of a word and two numbers.
 fn numbered(t: Text, w: &[u8], a: u8, b: u8) -> Text
@@ -67,14 +75,27 @@ fn four(t: Table) -> Text
     cleared_line(third, r.cleared)
 }
 
-// Writes the lines for a book, or nothing where they do not fit; gives their length, or 0.
-pub fn lines(book: &[u8], out: &mut [u8]) -> usize
+// What is printed for a reading: the four lines, or the one where it is refused.
+fn told(r: Reading) -> Text
+    requires { ⌜ (r .number ≡ 0 → r .table .n ≤ 32) ⌝ }
+    ensures { λ u. ⌜ Told r u ⌝ }
+{
+    if r.number != 0 {
+        return numbered(text::empty(), b"refused", r.number, r.place);
+    }
+    let t = r.table;
+    four(t)
+}
+
+// Writes the lines for a book, or nothing where they do not fit; gives their length, or 0, and the book's own number and place.
+pub fn lines(book: &[u8], out: &mut [u8]) -> Printed
     ensures { λ r. ⌜ LinesSay (now (book .entry)) (now (out .entry)) r (now (out .exit)) ⌝ }
 {
     let r = reader::read(book);
-    if r.number != 0 {
-        return text::copy(numbered(text::empty(), b"refused", r.number, r.place), out);
+    let length = text::copy(told(r), out);
+    Printed {
+        number: r.number,
+        place: r.place,
+        length: length,
     }
-    let t = r.table;
-    text::copy(four(t), out)
 }

@@ -41,8 +41,8 @@ module _ (s : List ℕ) (b : Bytes s) (t : Table) (e : readOf s ≡ taken t) whe
   pub read-book : bookOf t ≡ s
   read-book = ap bookOf (sym table-in) ∙ same-bytes s b is-done
 
-  pub read-size : sizeOf t ≡ length s
-  read-size = size-done t read-sound ∙ ap length read-book
+  pub read-size : sizeOf t .length ≡ length s
+  read-size = ap (λ (w : Written). w .length) (size-done t read-sound) ∙ ap length read-book
 
   -- a book that is read done with table t is what a write of t gives, byte for byte
   pub read-write : (d : List ℕ) → length s ≤ length d → writeOf t d ≡ (written 0 255 (length s), put d 0 s)

@@ -13,3 +13,4 @@ pub mod PostLaws
 pub mod ViewLaws
 pub mod EligibleLaws
 pub mod RunLaws
+pub mod KeptLaws

@@ -25,5 +25,6 @@ writeOf t d =
     (written 0 255 (length (bookOf t)), put d 0 (bookOf t)))
 
 -- after the writer's checks the book's length; 0 where refused
-unfoldable pub sizeOf : Table → ℕ
-sizeOf t = cond (notZero (checkOf t .number)) 0 (length (bookOf t))
+unfoldable pub sizeOf : Table → Written
+sizeOf t =
+    cond (notZero (checkOf t .number)) (written (checkOf t .number) (checkOf t .place) 0) (written 0 255 (length (bookOf t)))

@@ -84,44 +84,43 @@ fn write_bodies(out: &mut [u8], n: usize, rules: [Rule; 32])
 }
 
 // How long a buffer must be: the book's length, or 0 where the table is refused.
-pub fn size(t: Table) -> usize
+pub fn size(t: Table) -> Written
     ensures { λ r. ⌜ r ≡ sizeOf t ⌝ }
 {
     let c = book::check(t);
     if c.number != 0 {
-        return 0;
+        return Written {
+            number: c.number,
+            place: c.place,
+            length: 0,
+        };
     }
     let rules = t.rules;
-    end_of(rule::count(t.n), rules)
+    Written {
+        number: 0,
+        place: 255,
+        length: end_of(rule::count(t.n), rules),
+    }
 }
 
 pub fn write(t: Table, out: &mut [u8]) -> Written
     ensures { λ r. ⌜ (r, now (out .exit)) ≡ writeOf t (now (out .entry)) ⌝ }
 {
-    let a = book::check(t);
-    if a.number != 0 {
-        return Written {
-            number: a.number,
-            place: a.place,
-            length: 0,
-        };
+    let sized = size(t);
+    if sized.number != 0 {
+        return sized;
     }
-    let n = rule::count(t.n);
-    let rules = t.rules;
-    let size = end_of(n, rules);
-    if out.len() < size {
+    if out.len() < sized.length {
         return Written {
             number: 18,
             place: 255,
             length: 0,
         };
     }
+    let n = rule::count(t.n);
+    let rules = t.rules;
     endian::put_4(out, 0, 1, t.n, t.k, 0);
     write_contents(out, n, rules);
     write_bodies(out, n, rules);
-    Written {
-        number: 0,
-        place: 255,
-        length: size,
-    }
+    sized
 }

@@ -1,6 +1,7 @@
--- Each callee ensures its definition.
+-- The check of what was loaded.
 use mathlib.Core.Path.{ap, _∙_}
 use borrow.Author.Needs.{needs}
+use Rattle.book.specs.declared.Answer.{Answer}
 use Rattle.book.specs.Check.{checkOf}
 use Rattle.abi.specs.Code.{codeOf}
 use Rattle.abi.proofs.gwaunidor_check.Statement.{statement}
@@ -17,7 +18,9 @@ code-requires c κs = search needs
 
 returns : tie.Need-returns
 returns c =
-    c .code .ensures ∙ ap codeOf (c .before .check .ensures ∙ ap checkOf (c .before .before .load .ensures))
+    c .code .ensures
+    ∙ ap (λ (a : Answer). codeOf (a .number) (a .place))
+    (c .before .check .ensures ∙ ap checkOf (c .before .before .load .ensures))
 
 pub gwaunidor-check-spec : {M : Type 1} → statement M
 gwaunidor-check-spec = tie.close (tie.spec load-requires check-requires code-requires returns)

@@ -1,9 +1,7 @@
--- The lines and their length are what `lines` ensures, the code is the reader's.
-use mathlib.Core.Path.{_≡_, ap, _∙_}
+-- The lines' promise, and the number and the place that came with it.
+use mathlib.Core.Path.{refl}
 use native.Mathlib.Omega.{arith}
 use borrow.Author.Needs.{needs}
-use Rattle.reader.specs.declared.Reading.{Reading}
-use Rattle.abi.specs.Code.{codeOf, answerOf}
 use Rattle.abi.specs.Printed.{printed-most}
 use Rattle.abi.proofs.gwaunidor_lines.Statement.{statement}
 use Rattle.abi.proofs.gwaunidor_lines.Tie as tie
@@ -12,10 +10,7 @@ lines-requires : tie.Need-lines-requires
 lines-requires c κs = search needs
 
 cast-written : tie.Need-cast-written
-cast-written c = record { fits = omega (arith, printed-most (c .before .before .lines .ensures)) }
-
-read-requires : tie.Need-read-requires
-read-requires c κs = search needs
+cast-written c = record { fits = omega (arith, printed-most (c .before .before .before .lines .ensures)) }
 
 code-requires : tie.Need-code-requires
 code-requires c κs = search needs
@@ -25,12 +20,9 @@ same-length c = search needs
 
 returns : tie.Need-returns
 returns c =
-    record {
-      says = c .before .before .before .before .lines .ensures;
-      returned = c .code .ensures ∙ ap (λ (r : Reading). codeOf (answerOf r)) (c .before .read .ensures);
-    }
+    let p = c .before .before .before .before in
+    record { given = p .lines .result; says = p .lines .ensures; written = refl; returned = c .code .ensures }
 
 pub gwaunidor-lines-spec : {M : Type 1} → statement M
 gwaunidor-lines-spec =
-    tie.close
-    (tie.spec lines-requires cast-written read-requires code-requires same-length returns)
+    tie.close (tie.spec lines-requires cast-written code-requires same-length returns)

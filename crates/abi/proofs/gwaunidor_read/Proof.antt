@@ -3,7 +3,7 @@ use mathlib.Core.Path.{ap, _∙_}
 use borrow.Author.Needs.{needs}
 use Rattle.memory.specs.Memory.{tableBytes}
 use Rattle.reader.specs.declared.Reading.{Reading}
-use Rattle.abi.specs.Code.{codeOf, answerOf}
+use Rattle.abi.specs.Code.{codeOf}
 use Rattle.abi.proofs.gwaunidor_read.Statement.{statement}
 use Rattle.abi.proofs.gwaunidor_read.Tie as tie
 
@@ -19,7 +19,7 @@ code-requires c κs = search needs
 returns : tie.Need-returns
 returns c =
     let e = c .before .before .before .before .read .ensures in (
-      c .code .ensures ∙ ap (λ (r : Reading). codeOf (answerOf r)) e,
+      c .code .ensures ∙ ap (λ (r : Reading). codeOf (r .number) (r .place)) e,
       c .before .store .ensures ∙ ap (λ (r : Reading). tableBytes (r .table)) e,
     )
 

@@ -1,8 +1,8 @@
--- Each callee ensures its definition.
+-- The size of what was loaded; it has 32 bits.
 use mathlib.Core.Path.{ap, _∙_}
 use native.Mathlib.Omega.{arith}
 use borrow.Author.Needs.{needs}
-use Rattle.book.specs.Check.{checkOf}
+use Rattle.writer.specs.declared.Written.{Written}
 use Rattle.writer.specs.Write.{sizeOf}
 use Rattle.abi.specs.Code.{codeOf}
 use Rattle.abi.specs.Writes.{size-most}
@@ -16,23 +16,22 @@ size-requires : tie.Need-size-requires
 size-requires c κs = search needs
 
 cast-size : tie.Need-cast-size
-cast-size c = record { fits = omega (arith, c .size .ensures, size-most (c .before .load .result)) }
-
-check-requires : tie.Need-check-requires
-check-requires c κs = search needs
+cast-size c =
+    let s = c .before in
+    let e = ap (λ (w : Written). w .length) (s .size .ensures) in
+    record { fits = omega (arith, e, size-most (s .before .load .result)) }
 
 code-requires : tie.Need-code-requires
 code-requires c κs = search needs
 
 returns : tie.Need-returns
 returns c =
-    let p = c .before .before in
-    let e = p .before .load .ensures in
+    let s = c .before .before in
+    let e = s .size .ensures ∙ ap sizeOf (s .before .load .ensures) in
     record {
-      length = p .size .ensures ∙ ap sizeOf e;
-      returned = c .code .ensures ∙ ap codeOf (c .before .check .ensures ∙ ap checkOf e);
+      length = ap (λ (w : Written). w .length) e;
+      returned = c .code .ensures ∙ ap (λ (w : Written). codeOf (w .number) (w .place)) e;
     }
 
 pub gwaunidor-size-spec : {M : Type 1} → statement M
-gwaunidor-size-spec =
-    tie.close (tie.spec load-requires size-requires cast-size check-requires code-requires returns)
+gwaunidor-size-spec = tie.close (tie.spec load-requires size-requires cast-size code-requires returns)

@@ -5,7 +5,6 @@ use Prim.Native.Nat.{ℕ}
 use native.Mathlib.Omega.{arith}
 use borrow.Author.Needs.{needs}
 use Rattle.book.specs.declared.Table.{Table}
-use Rattle.book.specs.Check.{answer}
 use Rattle.writer.specs.declared.Written.{Written}
 use Rattle.writer.specs.Write.{writeOf}
 use Rattle.abi.specs.Code.{codeOf}
@@ -40,7 +39,7 @@ returns c =
     record {
       bytes = ap (λ (w : Written × List ℕ). w .1) e;
       written = ap (λ (w : Written × List ℕ). w .0 .length) e;
-      returned = c .code .ensures ∙ ap (λ (w : Written × List ℕ). codeOf (answer (w .0 .number) (w .0 .place))) e;
+      returned = c .code .ensures ∙ ap (λ (w : Written × List ℕ). codeOf (w .0 .number) (w .0 .place)) e;
     }
 
 pub gwaunidor-write-spec : {M : Type 1} → statement M

@@ -7,6 +7,7 @@ use Rattle.book.specs.declared.Answer.{Answer}
 use Rattle.book.specs.Check.{checkOf}
 use Rattle.writer.specs.Book.{startAt}
 use Rattle.writer.specs.BookLaws.{ready, length-book}
+use Rattle.writer.specs.Write.{written}
 use Rattle.writer.specs.WriteLaws.{size-refused, size-done}
 use borrow.Author.Needs.{needs}
 use Rattle.writer.proofs.size.Statement.{statement}
@@ -19,7 +20,8 @@ returns : tie.Need-returns
 returns c =
     let k = c .before .before in
     let t = k .before .args .t in
-    sym (size-refused t (λ e. c .if1 .taken (ap (λ (a : Answer). a .number) (k .check .ensures) ∙ e)))
+    sym (size-refused t (λ e. c .if1 .taken (ap (λ (a : Answer). a .number) (k .check .ensures) ∙ e))
+    ∙ ap (λ (a : Answer). written (a .number) (a .place) 0) (sym (k .check .ensures)))
 
 zero-number : (c : tie.Else1) → checkOf (c .before .before .before .args .t) .number ≡ 0
 zero-number c = sym (ap (λ (a : Answer). a .number) (c .before .before .check .ensures)) ∙ c .if1 .left
@@ -37,9 +39,9 @@ returns-2 : tie.Need-returns-2
 returns-2 c =
     let d = c .before .before .before in
     let t = d .before .before .before .args .t in
-    c .end-of .ensures
-    ∙ (ap (λ (n : ℕ). startAt n (t .rules) n) (c .before .count .ensures .0)
-    ∙ (sym (length-book t) ∙ sym (size-done t (zero-number d))))
+    ap (written 0 255)
+    (c .end-of .ensures ∙ (ap (λ (n : ℕ). startAt n (t .rules) n) (c .before .count .ensures .0) ∙ sym (length-book t)))
+    ∙ sym (size-done t (zero-number d))
 
 pub size-spec : {M : Type 1} → statement M
 size-spec = tie.close (tie.spec check-requires returns count-requires end-of-requires returns-2)

@@ -1,0 +1,68 @@
+-- "A refused step, posting or run gives back the state it was given, and the run reports 0 steps."; a refused fresh state is
+-- all zeros. Assumes nothing.
+use mathlib.Core.Path.{_≡_, refl}
+use mathlib.Core.Bool.{Bool, true, false, cond}
+use mathlib.Core.Logic.{_⊎_, inl, inr, ⊎-elim}
+use mathlib.Core.List.{List}
+use Prim.Native.Nat.{ℕ, zero, suc}
+use lib.IntN.{ℤ}
+use Rattle.rule.specs.Numbers.{isZero, notZero}
+use Rattle.book.specs.declared.Table.{Table}
+use Rattle.book.specs.Check.{checkOf}
+use Rattle.steps.specs.declared.State.{State}
+use Rattle.steps.specs.declared.Ran.{Ran}
+use Rattle.steps.specs.State.{stateBad, still, zeros}
+use Rattle.steps.specs.Step.{moved, answered, effect, stepNumber, stepOf, postNumber, postOf, freshNumber, freshOf}
+use Rattle.steps.specs.Run.{ran, next, later, runs, runOf}
+
+module _ (t : Table) (number : ℕ) (given after : State) where
+  answered-kept : (answered t number given after .number ≡ 0 → ⊥) → answered t number given after .state ≡ given
+  unfolding answered
+  answered-kept = pick (notZero (checkOf t .number)) (notZero number)
+    where
+      pick : (b c : Bool)
+          → let m = cond b (moved (checkOf t .number) (checkOf t .place) given)
+          (cond c (moved number 255 given) (moved 0 255 after)) in (m .number ≡ 0 → ⊥) → m .state ≡ given
+      pick true c h = refl
+      pick false true h = refl
+      pick false false h = absurd (h refl)
+
+pub step-kept : (t : Table) (s : State) (r : ℕ) → (stepOf t s r .number ≡ 0 → ⊥) → stepOf t s r .state ≡ s
+unfolding stepOf
+step-kept t s r = answered-kept t (stepNumber t s r) s (effect t s r)
+
+pub post-kept : (t : Table) (s : State) (cell : ℕ) (value : ℤ) → (postOf t s cell value .number ≡ 0 → ⊥)
+    → postOf t s cell value .state ≡ s
+unfolding postOf
+post-kept t s cell value = answered-kept t (postNumber t s cell value) s _
+
+pub fresh-kept : (t : Table) (amounts : List ℤ) → (freshOf t amounts .number ≡ 0 → ⊥) → freshOf t amounts .state ≡ zeros
+unfolding freshOf
+fresh-kept t amounts = answered-kept t (freshNumber t amounts) zeros (still amounts)
+
+-- a run that was not refused is done or has its budget spent
+runs-number : (t : Table) (s : State) (budget : ℕ) → (runs t s budget .number ≡ 0) ⊎ (runs t s budget .number ≡ 15)
+unfolding runs
+runs-number t s zero = pick (isZero (s .waiting))
+  where
+    pick : (b : Bool) → let x = ran (cond b 0 15) 255 s 0 in (x .number ≡ 0) ⊎ (x .number ≡ 15)
+    pick true = inl refl
+    pick false = inr refl
+runs-number t s (suc budget) = pick (isZero (s .waiting)) (runs t (next t s) budget) (runs-number t (next t s) budget)
+  where
+    pick : (b : Bool) (x : Ran) → (x .number ≡ 0) ⊎ (x .number ≡ 15)
+        → (cond b (ran 0 255 s 0) (later 1 x) .number ≡ 0) ⊎ (cond b (ran 0 255 s 0) (later 1 x) .number ≡ 15)
+    pick true x h = inl refl
+    pick false x h = h
+
+pub run-kept : (t : Table) (s : State) (budget : ℕ) → (runOf t s budget .number ≡ 0 → ⊥) → (runOf t s budget .number ≡ 15 → ⊥)
+    → (runOf t s budget .state ≡ s) × (runOf t s budget .steps ≡ 0)
+unfolding runOf
+run-kept t s budget = pick (notZero (checkOf t .number)) (stateBad t s)
+  where
+    pick : (b c : Bool)
+        → let x = cond b (ran (checkOf t .number) (checkOf t .place) s 0) (cond c (ran 11 255 s 0) (runs t s budget)) in
+        (x .number ≡ 0 → ⊥) → (x .number ≡ 15 → ⊥) → (x .state ≡ s) × (x .steps ≡ 0)
+    pick true c h g = (refl, refl)
+    pick false true h g = (refl, refl)
+    pick false false h g = absurd (⊎-elim h g (runs-number t s budget))
