@@ -38,9 +38,9 @@ fn compares(code: u8, v: i64, w: i64) -> bool
 fn holds(x: Test, cells: [i64; 32]) -> bool
     ensures { λ r. ⌜ r ≡ holds x cells ⌝ }
 {
-    let left = amount(cells, rule::wide(x.left));
+    let left = amount(cells, rule::count(x.left));
     if x.kind == 1 {
-        return compares(x.comparison, left, amount(cells, rule::wide(x.right)));
+        return compares(x.comparison, left, amount(cells, rule::count(x.right)));
     }
     compares(x.comparison, left, x.constant)
 }
@@ -51,7 +51,7 @@ pub fn any_false(r: Rule, cells: [i64; 32]) -> bool
     ensures { λ x. ⌜ x ≡ anyFalse r cells ⌝ }
 {
     let tests = r.tests;
-    let t = rule::wide(r.t);
+    let t = rule::count(r.t);
     let mut found = false;
     for j in 0..t {
         found = !holds(tests[j], cells) | found;
@@ -86,8 +86,8 @@ fn worked(x: Assign, cells: [i64; 32]) -> i64
     requires { ⌜ Bounded x × InRange cells ⌝ }
     ensures { λ r. ⌜ r ≡ valueOf x cells ⌝ }
 {
-    let a = amount(cells, rule::wide(x.a));
-    let b = amount(cells, rule::wide(x.b));
+    let a = amount(cells, rule::count(x.a));
+    let b = amount(cells, rule::count(x.b));
     let k = x.k;
     let operation = x.operation;
     match operation {
@@ -106,7 +106,7 @@ pub fn any_out(r: Rule, cells: [i64; 32]) -> bool
     ensures { λ x. ⌜ x ≡ anyOut r cells ⌝ }
 {
     let assigns = r.assigns;
-    let a = rule::wide(r.a);
+    let a = rule::count(r.a);
     let mut found = false;
     for j in 0..a {
         found = fields::out_of_range(worked(assigns[j], cells)) | found;
@@ -120,11 +120,11 @@ pub fn stored(r: Rule, before: [i64; 32]) -> [i64; 32]
     ensures { λ cells. ⌜ cells ≡ stored r before ⌝ }
 {
     let assigns = r.assigns;
-    let a = rule::wide(r.a);
+    let a = rule::count(r.a);
     let mut cells = before;
     for j in 0..a {
         let x = assigns[j];
-        let c = rule::wide(x.target);
+        let c = rule::count(x.target);
         cells[c] = worked(x, before);
     }
     cells

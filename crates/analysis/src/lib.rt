@@ -13,7 +13,7 @@ fn masks(t: Table) -> Masks
     requires { ⌜ Sound t ⌝ }
     ensures { λ m. ⌜ Taken t m ⌝ }
 {
-    let n = rule::wide(t.n);
+    let n = rule::count(t.n);
     let rules = t.rules;
     let mut watch = [0u32; 32];
     let mut reads = [0u32; 32];

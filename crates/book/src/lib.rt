@@ -42,7 +42,7 @@ pub fn precedes(t: Table) -> [u32; 32]
     requires { ⌜ t .n ≤ 32 ⌝ }
     ensures { λ q. ⌜ q ≡ precedesOf t ⌝ }
 {
-    let n = rule::wide(t.n);
+    let n = rule::count(t.n);
     let rules = t.rules;
     let mut q = [0u32; 32];
     for i in 0..n {
@@ -57,7 +57,7 @@ pub fn goes_before(t: Table) -> [u32; 32]
     requires { ⌜ t .n ≤ 32 ⌝ }
     ensures { λ q. ⌜ ((r s : ℕ) → has (getD q r 0) s ≡ goesBefore t r s) ⌝ }
 {
-    graph::closure(precedes(t), rule::wide(t.n))
+    graph::closure(precedes(t), rule::count(t.n))
 }
 
 // The first rule with a number, or n.
@@ -65,7 +65,7 @@ fn first_bad(t: Table) -> usize
     requires { ⌜ (t .n ≤ 32) × (t .k ≤ 32) ⌝ }
     ensures { λ r. ⌜ r ≡ firstBad t ⌝ }
 {
-    let n = rule::wide(t.n);
+    let n = rule::count(t.n);
     let rules = t.rules;
     for i in 0..n {
         if numbers::rule_number(t.n, t.k, rules, i, rules[i]) != 0 {
@@ -79,7 +79,7 @@ fn first_bad(t: Table) -> usize
 fn first_slot(t: Table) -> usize
     ensures { λ r. ⌜ r ≡ firstSlot t ⌝ }
 {
-    let n = rule::wide(t.n);
+    let n = rule::count(t.n);
     let rules = t.rules;
     for i in 0..32 {
         if (n <= i) & numbers::rule_slot_bad(rules[i]) {
@@ -96,7 +96,7 @@ pub fn cyclic(t: Table) -> bool
 {
     let before = goes_before(t);
     let on = graph::loops(before);
-    mask::meets(on, mask::below(rule::wide(t.n)))
+    mask::meets(on, mask::below(rule::count(t.n)))
 }
 
 // The checks that every call on a table makes first: 3, the rules by 5 to 9, the rule slots past n by 7, then 10.
@@ -110,7 +110,7 @@ pub fn check(t: Table) -> Answer
         };
     }
     let i = first_bad(t);
-    if i < rule::wide(t.n) {
+    if i < rule::count(t.n) {
         let rules = t.rules;
         return Answer {
             number: numbers::rule_number(t.n, t.k, rules, i, rules[i]),

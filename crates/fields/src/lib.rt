@@ -62,10 +62,10 @@ pub fn cells_bad(r: Rule, n: u8, k: u8) -> bool
 {
     let tests = r.tests;
     let assigns = r.assigns;
-    mask::beyond(r.watch, rule::wide(k))
-        | mask::beyond(r.precedes, rule::wide(n))
-        | test_cells_bad(tests, rule::wide(r.t), k)
-        | assign_cells_bad(assigns, rule::wide(r.a), k)
+    mask::beyond(r.watch, rule::count(k))
+        | mask::beyond(r.precedes, rule::count(n))
+        | test_cells_bad(tests, rule::count(r.t), k)
+        | assign_cells_bad(assigns, rule::count(r.a), k)
 }
 
 fn test_form_bad(x: Test) -> bool
@@ -161,7 +161,7 @@ pub fn forms_bad(r: Rule) -> bool
     let tests = r.tests;
     let assigns = r.assigns;
     let name = r.name;
-    test_forms_bad(tests, rule::wide(r.t))
-        | assign_forms_bad(assigns, rule::wide(r.a))
-        | name_slots_bad(name, rule::wide(r.m))
+    test_forms_bad(tests, rule::count(r.t))
+        | assign_forms_bad(assigns, rule::count(r.a))
+        | name_slots_bad(name, rule::count(r.m))
 }

@@ -68,7 +68,7 @@ fn four(t: Table) -> Text
     ensures { λ r. ⌜ Four t r ⌝ }
 {
     let r = analysis::report(t);
-    let b = analysis::bound(t, mask::below(rule::wide(t.n)));
+    let b = analysis::bound(t, mask::below(rule::count(t.n)));
     let first = numbered(text::empty(), b"book", t.n, t.k);
     let second = ends_line(first, r.faulty, b.bound);
     let third = pairs_line(second, r);

@@ -72,7 +72,7 @@ fn step_number(t: Table, s: State, r: u32) -> u8
         return 11;
     }
     let i = r as usize;
-    if rule::wide(t.n) <= i {
+    if rule::count(t.n) <= i {
         return 12;
     }
     if !mask::has(s.waiting, i) {
@@ -109,7 +109,7 @@ fn post_number(t: Table, s: State, cell: u32, value: i64) -> u8
     if moves::state_bad(t, s) {
         return 11;
     }
-    if (rule::wide(t.k) <= cell as usize) | fields::out_of_range(value) {
+    if (rule::count(t.k) <= cell as usize) | fields::out_of_range(value) {
         return 16;
     }
     0

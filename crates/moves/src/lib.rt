@@ -30,8 +30,8 @@ pub fn state_bad(t: Table, s: State) -> bool
     ensures { λ r. ⌜ r ≡ stateBad t s ⌝ }
 {
     let cells = s.cells;
-    let n = rule::wide(t.n);
-    cells_bad(cells, rule::wide(t.k)) | mask::beyond(s.waiting, n) | mask::beyond(s.faults, n)
+    let n = rule::count(t.n);
+    cells_bad(cells, rule::count(t.k)) | mask::beyond(s.waiting, n) | mask::beyond(s.faults, n)
 }
 
 // r stops waiting.
@@ -66,7 +66,7 @@ fn watchers(t: Table, m: u32) -> u32
     ensures { λ q. ⌜ ((x : ℕ) → has q x ≡ (ltb x (t .n) && meet (ruleAt t x .watch) m)) ⌝ }
 {
     let rules = t.rules;
-    let n = rule::wide(t.n);
+    let n = rule::count(t.n);
     let mut q = 0;
     for x in 0..n {
         let r = rules[x];

@@ -48,7 +48,7 @@ fn twice(r: Rule) -> bool
     ensures { λ x. ⌜ x ≡ twice r ⌝ }
 {
     let assigns = r.assigns;
-    targets_twice(assigns, rule::wide(r.a))
+    targets_twice(assigns, rule::count(r.a))
 }
 
 fn letter_bad(b: u8) -> bool
@@ -74,7 +74,7 @@ fn letters_bad(r: Rule) -> bool
     ensures { λ x. ⌜ x ≡ lettersBad r ⌝ }
 {
     let name = r.name;
-    name_bad(name, rule::wide(r.m))
+    name_bad(name, rule::count(r.m))
 }
 
 fn differ(x: [u8; 16], y: [u8; 16], m: usize) -> bool
@@ -95,7 +95,7 @@ fn same_name(r: Rule, s: Rule) -> bool
 {
     let x = r.name;
     let y = s.name;
-    (r.m == s.m) & !differ(x, y, rule::wide(s.m))
+    (r.m == s.m) & !differ(x, y, rule::count(s.m))
 }
 
 // 9, second half: whether one of the first i rules has the name of r.

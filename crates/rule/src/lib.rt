@@ -78,16 +78,9 @@ pub fn no_rule() -> Rule
     }
 }
 
-// A count byte as an index; a byte is below 256.
+// A count, a cell or a rule's number as an index; a byte is below 256.
 pub fn count(x: u8) -> usize
     ensures { λ r. ⌜ (r ≡ x) × (r < 256) ⌝ }
-{
-    x as usize
-}
-
-// A count byte as an index.
-pub fn wide(x: u8) -> usize
-    ensures { λ r. ⌜ r ≡ x ⌝ }
 {
     x as usize
 }

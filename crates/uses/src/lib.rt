@@ -11,13 +11,13 @@ ghost use Rattle.rule.specs.Uses.{testReads, sideReads, reads, writes};
 use rule::Assign;
 use rule::Rule;
 use rule::Test;
-use rule::wide;
+use rule::count;
 
 // The set of cell c alone, or of none where c is 32 or more.
 fn cell(c: u8) -> u32
     ensures { λ m. ⌜ ((x : ℕ) → has m x ≡ (ltb x 32 && eqb x c)) ⌝ }
 {
-    if c < 32 { mask::with(0, wide(c)) } else { 0 }
+    if c < 32 { mask::with(0, count(c)) } else { 0 }
 }
 
 // The set m where b holds, and none where it does not.
@@ -81,7 +81,7 @@ pub fn reads(r: Rule) -> u32
 {
     let tests = r.tests;
     let assigns = r.assigns;
-    tests_read(tests, wide(r.t)) | sides_read(assigns, wide(r.a))
+    tests_read(tests, count(r.t)) | sides_read(assigns, count(r.a))
 }
 
 // The cells that a rule writes.
@@ -90,5 +90,5 @@ pub fn writes(r: Rule) -> u32
     ensures { λ m. ⌜ ((x : ℕ) → has m x ≡ (ltb x 32 && writes r x)) ⌝ }
 {
     let assigns = r.assigns;
-    targets(assigns, wide(r.a))
+    targets(assigns, count(r.a))
 }

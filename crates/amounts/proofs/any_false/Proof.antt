@@ -16,8 +16,8 @@ Inv-loop cells tests t found₀ j₀ found j = (j ≤ t) × Sought (λ i. not (h
 abbrev μ-loop : tie.MeasureT-loop
 μ-loop cells tests t found₀ j₀ found j = t - j
 
-wide-requires : tie.Need-wide-requires Inv-loop μ-loop
-wide-requires c κs = search needs
+count-requires : tie.Need-count-requires Inv-loop μ-loop
+count-requires c κs = search needs
 
 loop-holds : tie.Need-loop-holds Inv-loop μ-loop
 loop-holds c = (search needs, sought-none)
@@ -44,7 +44,7 @@ returns : tie.Need-returns Inv-loop μ-loop
 unfolding anyFalse
 returns c =
     let l = c .before .loop in
-    rw (← c .before .before .wide .ensures) (sought-all (l .inv .1) (l .inv .0) (c .loop-test .left))
+    rw (← c .before .before .count .ensures .0) (sought-all (l .inv .1) (l .inv .0) (c .loop-test .left))
 
 pub any-false-spec : {M : Type 1} → statement M
 any-false-spec =
@@ -52,7 +52,7 @@ any-false-spec =
     (tie.spec
     Inv-loop
     μ-loop
-    wide-requires
+    count-requires
     loop-holds
     mul-holds
     array-copy-out-holds

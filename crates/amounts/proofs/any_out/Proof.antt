@@ -19,8 +19,8 @@ Inv-loop cells assigns a found₀ j₀ found j = (j ≤ a)
 abbrev μ-loop : tie.MeasureT-loop
 μ-loop cells assigns a found₀ j₀ found j = a - j
 
-wide-requires : tie.Need-wide-requires Inv-loop μ-loop
-wide-requires c κs = search needs
+count-requires : tie.Need-count-requires Inv-loop μ-loop
+count-requires c κs = search needs
 
 loop-holds : tie.Need-loop-holds Inv-loop μ-loop
 loop-holds c = (search needs, sought-none)
@@ -34,7 +34,7 @@ array-copy-out-worked c = search needs
 worked-requires : tie.Need-worked-requires Inv-loop μ-loop
 worked-requires c κs = (
   c .before .before .before .before .before .pre .0 .bounded (c .before .before .loop .j)
-      (omega (arith, c .before .before .before .wide .ensures)),
+      (omega (arith, c .before .before .before .count .ensures .0)),
   c .before .before .before .before .before .pre .1,
 )
 
@@ -59,7 +59,7 @@ returns : tie.Need-returns Inv-loop μ-loop
 unfolding anyOut
 returns c =
     let l = c .before .loop in
-    rw (← c .before .before .wide .ensures) (sought-all (l .inv .1) (l .inv .0) (c .loop-test .left))
+    rw (← c .before .before .count .ensures .0) (sought-all (l .inv .1) (l .inv .0) (c .loop-test .left))
 
 pub any-out-spec : {M : Type 1} → statement M
 any-out-spec =
@@ -67,7 +67,7 @@ any-out-spec =
     (tie.spec
     Inv-loop
     μ-loop
-    wide-requires
+    count-requires
     loop-holds
     mul-worked
     array-copy-out-worked

@@ -8,14 +8,14 @@ use Rattle.amounts.specs.Amounts.{holds}
 use Rattle.amounts.proofs.holds.Statement.{statement}
 use Rattle.amounts.proofs.holds.Tie as tie
 
-wide-requires : tie.Need-wide-requires
-wide-requires c κs = search needs
+count-requires : tie.Need-count-requires
+count-requires c κs = search needs
 
 amount-requires : tie.Need-amount-requires
 amount-requires c κs = search needs
 
-wide-requires-2 : tie.Need-wide-requires-2
-wide-requires-2 c κs = search needs
+count-requires-2 : tie.Need-count-requires-2
+count-requires-2 c κs = search needs
 
 amount-requires-2 : tie.Need-amount-requires-2
 amount-requires-2 c κs = search needs
@@ -34,10 +34,10 @@ returns c =
       c .before .before .before .if1 .taken,
       toZ-ofZ v,
       d .amount .ensures,
-      d .before .wide .ensures,
+      d .before .count .ensures .0,
       toZ-ofZ w,
       c .before .amount2 .ensures,
-      c .before .before .wide2 .ensures,
+      c .before .before .count2 .ensures .0,
     )
 
 compares-requires-2 : tie.Need-compares-requires-2
@@ -54,7 +54,7 @@ returns-2 c =
       ne-eqb _ 1 (c .before .before .if1 .left),
       toZ-ofZ v,
       d .amount .ensures,
-      d .before .wide .ensures,
+      d .before .count .ensures .0,
       toZ-ofZ k,
     )
 
@@ -62,9 +62,9 @@ pub holds-spec : {M : Type 1} → statement M
 holds-spec =
     tie.close
     (tie.spec
-    wide-requires
+    count-requires
     amount-requires
-    wide-requires-2
+    count-requires-2
     amount-requires-2
     compares-requires
     returns

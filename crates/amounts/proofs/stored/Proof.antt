@@ -16,8 +16,8 @@ Inv-loop before assigns a cells₀ j₀ cells j = (j ≤ a) × (cells ≡ stored
 abbrev μ-loop : tie.MeasureT-loop
 μ-loop before assigns a cells₀ j₀ cells j = a - j
 
-wide-requires : tie.Need-wide-requires Inv-loop μ-loop
-wide-requires c κs = search needs
+count-requires : tie.Need-count-requires Inv-loop μ-loop
+count-requires c κs = search needs
 
 loop-holds : tie.Need-loop-holds Inv-loop μ-loop
 unfolding storedBy
@@ -29,21 +29,21 @@ mul-x c = search needs
 array-copy-out-x : tie.Need-array-copy-out-x Inv-loop μ-loop
 array-copy-out-x c = search needs
 
-wide-requires-2 : tie.Need-wide-requires-2 Inv-loop μ-loop
-wide-requires-2 c κs = search needs
+count-requires-2 : tie.Need-count-requires-2 Inv-loop μ-loop
+count-requires-2 c κs = search needs
 
 worked-requires : tie.Need-worked-requires Inv-loop μ-loop
 worked-requires c κs = (
   c .before .before .before .before .before .before .pre .0 .bounded
-      (c .before .before .before .loop .j) (omega (arith, c .before .before .before .before .wide .ensures)),
+      (c .before .before .before .loop .j) (omega (arith, c .before .before .before .before .count .ensures .0)),
   c .before .before .before .before .before .before .pre .1,
 )
 
 -- the target is a cell
-target : (c : tie.After-worked Inv-loop μ-loop) → c .before .wide2 .result < 32
-target c = rw (c .before .wide2 .ensures) (c .before .before .before .before .before .before .before .pre .0 .targets
+target : (c : tie.After-worked Inv-loop μ-loop) → c .before .count2 .result < 32
+target c = rw (c .before .count2 .ensures .0) (c .before .before .before .before .before .before .before .pre .0 .targets
     (c .before .before .before .before .loop .j)
-    (omega (arith, c .before .before .before .before .before .wide .ensures)))
+    (omega (arith, c .before .before .before .before .before .count .ensures .0)))
 
 mul-cells : tie.Need-mul-cells Inv-loop μ-loop
 mul-cells c = omega (arith, target c)
@@ -65,7 +65,7 @@ loop-again c =
       rw (
         toZ-ofZ (sfits-of (c .worked .ok)),
         c .worked .ensures,
-        c .before .wide2 .ensures,
+        c .before .count2 .ensures .0,
         add-one,
         l .inv .1,
       ),
@@ -75,7 +75,7 @@ returns : tie.Need-returns Inv-loop μ-loop
 returns c = rw (
   c .before .loop .inv .1,
   le-antisymm (c .before .loop .inv .0) (c .loop-test .left),
-  c .before .before .wide .ensures,
+  c .before .before .count .ensures .0,
 )
 
 pub stored-spec : {M : Type 1} → statement M
@@ -84,11 +84,11 @@ stored-spec =
     (tie.spec
     Inv-loop
     μ-loop
-    wide-requires
+    count-requires
     loop-holds
     mul-x
     array-copy-out-x
-    wide-requires-2
+    count-requires-2
     worked-requires
     mul-cells
     array-set-from-cells

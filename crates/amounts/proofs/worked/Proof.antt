@@ -10,14 +10,14 @@ use Rattle.amounts.specs.Amounts.{at, operated, valueOf}
 use Rattle.amounts.proofs.worked.Statement.{statement}
 use Rattle.amounts.proofs.worked.Tie as tie
 
-wide-requires : tie.Need-wide-requires
-wide-requires c κs = search needs
+count-requires : tie.Need-count-requires
+count-requires c κs = search needs
 
 amount-requires : tie.Need-amount-requires
 amount-requires c κs = search needs
 
-wide-requires-2 : tie.Need-wide-requires-2
-wide-requires-2 c κs = search needs
+count-requires-2 : tie.Need-count-requires-2
+count-requires-2 c κs = search needs
 
 amount-requires-2 : tie.Need-amount-requires-2
 amount-requires-2 c κs = search needs
@@ -27,12 +27,12 @@ left : (c : tie.After-struct-told) → let a = c .before .before .before .before
     toZ w64 (ofZ w64 (c .before .before .before .amount .result)) ≡ at (a .cells) (a .x .a)
 left c =
     let d = c .before .before .before in
-    rw (toZ-ofZ (sfits-of (d .amount .ok)), d .amount .ensures, d .before .wide .ensures)
+    rw (toZ-ofZ (sfits-of (d .amount .ok)), d .amount .ensures, d .before .count .ensures .0)
 
 right : (c : tie.After-struct-told) → let a = c .before .before .before .before .before .args in
     toZ w64 (ofZ w64 (c .before .amount2 .result)) ≡ at (a .cells) (a .x .b)
 right c =
-    rw (toZ-ofZ (sfits-of (c .before .amount2 .ok)), c .before .amount2 .ensures, c .before .before .wide2 .ensures)
+    rw (toZ-ofZ (sfits-of (c .before .amount2 .ok)), c .before .amount2 .ensures, c .before .before .count2 .ensures .0)
 
 constant : (c : tie.After-struct-told) → let a = c .before .before .before .before .before .args in
     toZ w64 (ofZ w64 (a .x .k)) ≡ a .x .k
@@ -122,9 +122,9 @@ pub worked-spec : {M : Type 1} → statement M
 worked-spec =
     tie.close
     (tie.spec
-    wide-requires
+    count-requires
     amount-requires
-    wide-requires-2
+    count-requires-2
     amount-requires-2
     sum-requires
     sum-requires-2

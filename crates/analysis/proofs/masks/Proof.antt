@@ -62,14 +62,14 @@ Inv-loop n rules watch₀ reads₀ writes₀ precedes₀ i₀ watch reads writes
 abbrev μ-loop : tie.MeasureT-loop
 μ-loop n rules watch₀ reads₀ writes₀ precedes₀ i₀ watch reads writes precedes i = n - i
 
-wide-requires : tie.Need-wide-requires Inv-loop μ-loop
-wide-requires c κs = search needs
+count-requires : tie.Need-count-requires Inv-loop μ-loop
+count-requires c κs = search needs
 
 loop-holds : tie.Need-loop-holds Inv-loop μ-loop
 loop-holds c =
     let s = c .before .before in (
       search needs,
-      omega (arith, c .before .wide .ensures, parts (s .args .t) (s .pre) .sizes .rules),
+      omega (arith, c .before .count .ensures .0, parts (s .args .t) (s .pre) .sizes .rules),
       refl,
       refl,
       refl,
@@ -95,7 +95,7 @@ counts c =
     let s = c .before .before .before .before .before in
     counted (getD (s .args .t .rules) (c .before .before .loop .i) blankRule)
     (parts (s .args .t) (s .pre) .rules (c .before .before .loop .i)
-    (omega (arith, c .before .loop-test .taken, c .before .before .before .before .wide .ensures)) .counts)
+    (omega (arith, c .before .loop-test .taken, c .before .before .before .before .count .ensures .0)) .counts)
 
 reads-requires : tie.Need-reads-requires Inv-loop μ-loop
 reads-requires c κs = (counts c .tests, counts c .assigns)
@@ -151,9 +151,9 @@ returns : tie.Need-returns Inv-loop μ-loop
 returns c =
     let at = c .before .loop in
     let s = c .before .before .before .before in
-    let e : at .i ≡ s .args .t .n = omega (arith, at .inv .0, c .loop-test .left, c .before .before .before .wide .ensures) in
+    let e : at .i ≡ s .args .t .n = omega (arith, at .inv .0, c .loop-test .left, c .before .before .before .count .ensures .0) in
     let h : (i : ℕ) → i < s .args .t .n → precedesIn (s .args .t .rules) i < 2 ^ 32 = λ i l. at .inv .6 i (omega arith) in
-    whole (s .args .t) (s .pre) h _ _ _ _ _ (c .before .before .before .wide .ensures) (at .inv .2 ∙ ap (filled 32 0 (watchOf (s .args .t .rules))) e)
+    whole (s .args .t) (s .pre) h _ _ _ _ _ (c .before .before .before .count .ensures .0) (at .inv .2 ∙ ap (filled 32 0 (watchOf (s .args .t .rules))) e)
     (at .inv .3 ∙ ap (filled 32 0 (readsOf (s .args .t .rules))) e)
     (at .inv .4 ∙ ap (filled 32 0 (writesOf (s .args .t .rules))) e)
     (at .inv .5 ∙ ap (filled 32 0 (precedesIn (s .args .t .rules))) e)
@@ -164,7 +164,7 @@ masks-spec =
     (tie.spec
     Inv-loop
     μ-loop
-    wide-requires
+    count-requires
     loop-holds
     mul-r
     array-copy-out-r

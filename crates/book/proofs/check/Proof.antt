@@ -28,12 +28,12 @@ sizes c = sized (c .before .before .args .t .n) (c .before .before .args .t .k) 
 first-bad-requires : tie.Need-first-bad-requires
 first-bad-requires c κs = (sizes c .rules, sizes c .cells)
 
-wide-requires : tie.Need-wide-requires
-wide-requires c κs = search needs
+count-requires : tie.Need-count-requires
+count-requires c κs = search needs
 
 -- where a rule has a number, it is one of the table's
 here : (c : tie.Then2) → c .before .before .first-bad .result < c .before .before .before .before .before .args .t .n
-here c = omega (arith, c .if2 .taken, c .before .wide .ensures)
+here c = omega (arith, c .if2 .taken, c .before .count .ensures .0)
 
 mul-rule-number : tie.Need-mul-rule-number
 mul-rule-number c = omega (arith, here (c .before), sizes (c .before .before .before .before) .rules)
@@ -61,7 +61,7 @@ returns-2 c =
 rules-good : (c : tie.Else2) → let t = c .before .before .before .before .before .args .t in ltb (firstBad t) (t .n) ≡ false
 rules-good c =
     let t = c .before .before .before .before .before .args .t in
-    le-ltb (firstBad t) (t .n) (omega (arith, c .if2 .left, c .before .wide .ensures, c .before .before .first-bad .ensures))
+    le-ltb (firstBad t) (t .n) (omega (arith, c .if2 .left, c .before .count .ensures .0, c .before .before .first-bad .ensures))
 
 first-slot-requires : tie.Need-first-slot-requires
 first-slot-requires c κs = search needs
@@ -105,7 +105,7 @@ check-spec =
     sizes-bad-requires
     returns
     first-bad-requires
-    wide-requires
+    count-requires
     mul-rule-number
     array-copy-out-rule-number
     rule-number-requires

@@ -16,8 +16,8 @@ goes-before-requires c κs = search needs
 loops-requires : tie.Need-loops-requires
 loops-requires c κs = search needs
 
-wide-requires : tie.Need-wide-requires
-wide-requires c κs = search needs
+count-requires : tie.Need-count-requires
+count-requires c κs = search needs
 
 below-requires : tie.Need-below-requires
 below-requires c κs = search needs
@@ -35,7 +35,7 @@ returns c =
     ∙ some-same 32 (λ i. has on i && has low i) (λ i. goesBefore (s .args .t) i i && ltb i (s .args .t .n))
     (λ i l.
     ap₂ _&&_ (c .before .before .before .loops .ensures i ∙ c .before .before .before .before .goes-before .ensures i i)
-    (c .before .below .ensures i ∙ ap (ltb i) (c .before .before .wide .ensures)))
+    (c .before .below .ensures i ∙ ap (ltb i) (c .before .before .count .ensures .0)))
     ∙ some-below 32 (s .args .t .n) (λ i. goesBefore (s .args .t) i i) (s .pre)
 
 pub cyclic-spec : {M : Type 1} → statement M
@@ -44,7 +44,7 @@ cyclic-spec =
     (tie.spec
     goes-before-requires
     loops-requires
-    wide-requires
+    count-requires
     below-requires
     meets-requires
     returns)

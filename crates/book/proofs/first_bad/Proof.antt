@@ -17,12 +17,12 @@ Inv-loop t n rules i₀ i = (i ≤ n) × (n ≡ t .n) × (n ≤ 32) × Passed (�
 abbrev μ-loop : tie.MeasureT-loop
 μ-loop t n rules i₀ i = n - i
 
-wide-requires : tie.Need-wide-requires Inv-loop μ-loop
-wide-requires c κs = search needs
+count-requires : tie.Need-count-requires Inv-loop μ-loop
+count-requires c κs = search needs
 
 loop-holds : tie.Need-loop-holds Inv-loop μ-loop
 loop-holds c =
-    (search needs, c .before .wide .ensures, omega (arith, c .before .wide .ensures, c .before .before .pre), passed-none)
+    (search needs, c .before .count .ensures .0, omega (arith, c .before .count .ensures .0, c .before .before .pre), passed-none)
 
 mul-rule-number : tie.Need-mul-rule-number Inv-loop μ-loop
 mul-rule-number c = search needs
@@ -63,7 +63,7 @@ loop-again c =
 returns-2 : tie.Need-returns-2 Inv-loop μ-loop
 unfolding firstBad
 returns-2 c =
-    c .before .before .before .wide .ensures ∙ passed-all (c .before .loop .inv .3) (omega arith)
+    c .before .before .before .count .ensures .0 ∙ passed-all (c .before .loop .inv .3) (omega arith)
 
 pub first-bad-spec : {M : Type 1} → statement M
 first-bad-spec =
@@ -71,7 +71,7 @@ first-bad-spec =
     (tie.spec
     Inv-loop
     μ-loop
-    wide-requires
+    count-requires
     loop-holds
     mul-rule-number
     array-copy-out-rule-number

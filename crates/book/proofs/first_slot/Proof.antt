@@ -17,8 +17,8 @@ Inv-loop n rules i₀ i = (i ≤ 32) × Passed (λ x. leb n x && ruleSlotBad (ge
 abbrev μ-loop : tie.MeasureT-loop
 μ-loop n rules i₀ i = 32 - i
 
-wide-requires : tie.Need-wide-requires Inv-loop μ-loop
-wide-requires c κs = search needs
+count-requires : tie.Need-count-requires Inv-loop μ-loop
+count-requires c κs = search needs
 
 loop-holds : tie.Need-loop-holds Inv-loop μ-loop
 loop-holds c = (search needs, passed-none)
@@ -36,7 +36,7 @@ returns : tie.Need-returns Inv-loop μ-loop
 unfolding firstSlot
 returns c =
     let d = c .before .before .before .before in
-    rw (← d .before .before .wide .ensures)
+    rw (← d .before .before .count .ensures .0)
     (passed-here (d .loop .inv .1) (c .before .before .before .loop-test .taken) (rw (← c .before .rule-slot-bad .ensures) (c .if1 .taken)))
 
 add-i : tie.Need-add-i Inv-loop μ-loop
@@ -53,7 +53,7 @@ loop-again c =
 returns-2 : tie.Need-returns-2 Inv-loop μ-loop
 unfolding firstSlot
 returns-2 c =
-    rw (← c .before .before .before .wide .ensures) (passed-all (c .before .loop .inv .1) (c .loop-test .left))
+    rw (← c .before .before .before .count .ensures .0) (passed-all (c .before .loop .inv .1) (c .loop-test .left))
 
 pub first-slot-spec : {M : Type 1} → statement M
 first-slot-spec =
@@ -61,7 +61,7 @@ first-slot-spec =
     (tie.spec
     Inv-loop
     μ-loop
-    wide-requires
+    count-requires
     loop-holds
     mul-rule-slot-bad
     array-copy-out-rule-slot-bad

@@ -16,11 +16,11 @@ Inv-loop n rules q₀ i₀ q i = (i ≤ n) × (n ≤ 32) × (q ≡ filled 32 0 (
 abbrev μ-loop : tie.MeasureT-loop
 μ-loop n rules q₀ i₀ q i = n - i
 
-wide-requires : tie.Need-wide-requires Inv-loop μ-loop
-wide-requires c κs = search needs
+count-requires : tie.Need-count-requires Inv-loop μ-loop
+count-requires c κs = search needs
 
 loop-holds : tie.Need-loop-holds Inv-loop μ-loop
-loop-holds c = (search needs, omega (arith, c .before .wide .ensures, c .before .before .pre), refl)
+loop-holds c = (search needs, omega (arith, c .before .count .ensures .0, c .before .before .pre), refl)
 
 mul-r : tie.Need-mul-r Inv-loop μ-loop
 mul-r c = search needs
@@ -54,7 +54,7 @@ returns c =
     let s = c .before .before .before .before in
     c .before .loop .inv .2
     ∙ ap (filled 32 0 (λ (x : ℕ). getD (s .args .t .rules) x blankRule .precedes))
-    (le-antisymm (c .before .loop .inv .0) (c .loop-test .left) ∙ c .before .before .before .wide .ensures)
+    (le-antisymm (c .before .loop .inv .0) (c .loop-test .left) ∙ c .before .before .before .count .ensures .0)
 
 pub precedes-spec : {M : Type 1} → statement M
 precedes-spec =
@@ -62,7 +62,7 @@ precedes-spec =
     (tie.spec
     Inv-loop
     μ-loop
-    wide-requires
+    count-requires
     loop-holds
     mul-r
     array-copy-out-r

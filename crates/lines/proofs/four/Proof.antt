@@ -14,8 +14,8 @@ use Rattle.lines.proofs.four.Tie as tie
 report-requires : tie.Need-report-requires
 report-requires c κs = search needs
 
-wide-requires : tie.Need-wide-requires
-wide-requires c κs = search needs
+count-requires : tie.Need-count-requires
+count-requires c κs = search needs
 
 below-requires : tie.Need-below-requires
 below-requires c κs = search needs
@@ -51,7 +51,7 @@ returns c =
     let t = b .before .before .before .before .args .t in
     let set = b .before .below .result in
     let whole : set ≡ 2 ^ (t .n) - 1 = all-rules (t .n) set (b .before .before .before .before .pre) (omega (arith, b .before .below .ok))
-    (λ k. b .before .below .ensures k ∙ ap (ltb k) (b .before .before .wide .ensures)) in
+    (λ k. b .before .below .ensures k ∙ ap (ltb k) (b .before .before .count .ensures .0)) in
     record {
       lines = record {
         report = b .before .before .before .report .result;
@@ -69,7 +69,7 @@ four-spec =
     tie.close
     (tie.spec
     report-requires
-    wide-requires
+    count-requires
     below-requires
     bound-requires
     empty-requires

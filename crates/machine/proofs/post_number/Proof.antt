@@ -16,19 +16,19 @@ returns : tie.Need-returns
 unfolding postNumber
 returns c = rw (← c .before .state-bad .ensures, c .if1 .taken)
 
-wide-requires : tie.Need-wide-requires
-wide-requires c κs = search needs
+count-requires : tie.Need-count-requires
+count-requires c κs = search needs
 
 out-of-range-requires : tie.Need-out-of-range-requires
 out-of-range-requires c κs = search needs
 
 -- the second test
 refused : (c : tie.After-out-of-range) → let a = c .before .before .before .before .args in
-    (leb (c .before .wide .result) (a .cell) || c .out-of-range .result)
+    (leb (c .before .count .result) (a .cell) || c .out-of-range .result)
     ≡ (leb (a .t .k) (a .cell) || outOfRange (a .value))
 refused c =
     let a = c .before .before .before .before .args in
-    ap₂ (λ (k : _) (b : Bool). leb k (a .cell) || b) (c .before .wide .ensures)
+    ap₂ (λ (k : _) (b : Bool). leb k (a .cell) || b) (c .before .count .ensures .0)
     (c .out-of-range .ensures ∙ ap outOfRange (toZ-ofZ (c .before .before .before .before .fits .value)))
 
 returns-2 : tie.Need-returns-2
@@ -52,4 +52,4 @@ returns-3 c = rw (
 pub post-number-spec : {M : Type 1} → statement M
 post-number-spec =
     tie.close
-    (tie.spec state-bad-requires returns wide-requires out-of-range-requires returns-2 returns-3)
+    (tie.spec state-bad-requires returns count-requires out-of-range-requires returns-2 returns-3)

@@ -21,8 +21,8 @@ returns : tie.Need-returns
 unfolding stepNumber
 returns c = rw (← c .before .state-bad .ensures, c .if1 .taken)
 
-wide-requires : tie.Need-wide-requires
-wide-requires c κs = search needs
+count-requires : tie.Need-count-requires
+count-requires c κs = search needs
 
 returns-2 : tie.Need-returns-2
 unfolding stepNumber
@@ -31,12 +31,12 @@ returns-2 c =
     rw (
       ← c .before .before .before .state-bad .ensures,
       c .before .before .if1 .left,
-      le-leb (a .t .n) (a .r) (omega (arith, c .if2 .taken, c .before .wide .ensures)),
+      le-leb (a .t .n) (a .r) (omega (arith, c .if2 .taken, c .before .count .ensures .0)),
     )
 
 -- past the second test r is a rule of the table
 below : (c : tie.Else2) → c .before .before .before .before .args .r < c .before .before .before .before .args .t .n
-below c = omega (arith, c .if2 .left, c .before .wide .ensures)
+below c = omega (arith, c .if2 .left, c .before .count .ensures .0)
 
 has-requires : tie.Need-has-requires
 has-requires c κs = omega (arith, below c, c .before .before .before .before .pre)
@@ -116,7 +116,7 @@ step-number-spec =
     (tie.spec
     state-bad-requires
     returns
-    wide-requires
+    count-requires
     returns-2
     has-requires
     returns-3

@@ -18,8 +18,8 @@ Inv-loop m rules n q₀ x₀ q x = (x ≤ n) × Picked (λ y. meet (getD rules y
 abbrev μ-loop : tie.MeasureT-loop
 μ-loop m rules n q₀ x₀ q x = n - x
 
-wide-requires : tie.Need-wide-requires Inv-loop μ-loop
-wide-requires c κs = search needs
+count-requires : tie.Need-count-requires Inv-loop μ-loop
+count-requires c κs = search needs
 
 loop-holds : tie.Need-loop-holds Inv-loop μ-loop
 loop-holds c = (search needs, picked-none _)
@@ -64,7 +64,7 @@ returns : tie.Need-returns Inv-loop μ-loop
 returns c =
     let l = c .before .loop in
     let e : l .x ≡ c .before .before .before .before .args .t .n = le-antisymm (l .inv .0) (c .loop-test .left)
-    ∙ c .before .before .wide .ensures in
+    ∙ c .before .before .count .ensures .0 in
     subst (λ (y : ℕ). Picked (λ y. meet (getD (c .before .before .before .before .args .t .rules) y blankRule .watch)
     (c .before .before .before .before .args .m)) y (l .q)) e (l .inv .1)
 
@@ -74,7 +74,7 @@ watchers-spec =
     (tie.spec
     Inv-loop
     μ-loop
-    wide-requires
+    count-requires
     loop-holds
     mul-r
     array-copy-out-r

@@ -3,8 +3,8 @@ use borrow.Author.Needs.{needs}
 use Rattle.numbers.proofs.letters_bad.Statement.{statement}
 use Rattle.numbers.proofs.letters_bad.Tie as tie
 
-wide-requires : tie.Need-wide-requires
-wide-requires c κs = search needs
+count-requires : tie.Need-count-requires
+count-requires c κs = search needs
 
 name-bad-requires : tie.Need-name-bad-requires
 name-bad-requires c κs = search needs
@@ -14,4 +14,4 @@ unfolding lettersBad
 returns c = cc
 
 pub letters-bad-spec : {M : Type 1} → statement M
-letters-bad-spec = tie.close (tie.spec wide-requires name-bad-requires returns)
+letters-bad-spec = tie.close (tie.spec count-requires name-bad-requires returns)

@@ -3,8 +3,8 @@ use borrow.Author.Needs.{needs}
 use Rattle.numbers.proofs.same_name.Statement.{statement}
 use Rattle.numbers.proofs.same_name.Tie as tie
 
-wide-requires : tie.Need-wide-requires
-wide-requires c κs = search needs
+count-requires : tie.Need-count-requires
+count-requires c κs = search needs
 
 differ-requires : tie.Need-differ-requires
 differ-requires c κs = search needs
@@ -14,4 +14,4 @@ unfolding sameName
 returns c = cc
 
 pub same-name-spec : {M : Type 1} → statement M
-same-name-spec = tie.close (tie.spec wide-requires differ-requires returns)
+same-name-spec = tie.close (tie.spec count-requires differ-requires returns)

@@ -7,8 +7,8 @@ use borrow.Author.Needs.{needs}
 use Rattle.uses.proofs.cell.Statement.{statement}
 use Rattle.uses.proofs.cell.Tie as tie
 
-wide-requires : tie.Need-wide-requires
-wide-requires c κs = search needs
+count-requires : tie.Need-count-requires
+count-requires c κs = search needs
 
 with-requires : tie.Need-with-requires
 with-requires c κs = search needs
@@ -16,10 +16,10 @@ with-requires c κs = search needs
 returns : tie.Need-returns
 returns c =
     let a = c .before .before .before .args .c in
-    λ x. c .with .ensures x ∙ ap₂ _||_ (has-zero x) (ap (eqb x) (c .before .wide .ensures)) ∙ low a (c .before .before .if1 .taken) x
+    λ x. c .with .ensures x ∙ ap₂ _||_ (has-zero x) (ap (eqb x) (c .before .count .ensures .0)) ∙ low a (c .before .before .if1 .taken) x
 
 returns-2 : tie.Need-returns-2
 returns-2 c = λ x. has-zero x ∙ high (c .before .args .c) (c .if1 .left) x
 
 pub cell-spec : {M : Type 1} → statement M
-cell-spec = tie.close (tie.spec wide-requires with-requires returns returns-2)
+cell-spec = tie.close (tie.spec count-requires with-requires returns returns-2)

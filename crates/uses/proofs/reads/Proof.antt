@@ -11,14 +11,14 @@ use borrow.Author.Needs.{needs}
 use Rattle.uses.proofs.reads.Statement.{statement}
 use Rattle.uses.proofs.reads.Tie as tie
 
-wide-requires : tie.Need-wide-requires
-wide-requires c κs = search needs
+count-requires : tie.Need-count-requires
+count-requires c κs = search needs
 
 tests-read-requires : tie.Need-tests-read-requires
 tests-read-requires c κs = search needs
 
-wide-requires-2 : tie.Need-wide-requires-2
-wide-requires-2 c κs = search needs
+count-requires-2 : tie.Need-count-requires-2
+count-requires-2 c κs = search needs
 
 sides-read-requires : tie.Need-sides-read-requires
 sides-read-requires c κs = search needs
@@ -30,9 +30,9 @@ returns c =
     let r = d .before .before .before .before .args .r in
     λ x.
     let tests : has (d .tests-read .result) x ≡ (ltb x 32 && some (r .t) (λ j. testReads (testAt r j) x)) =
-    d .tests-read .ensures x ∙ rw (d .before .wide .ensures) (out-some (ltb x 32) (r .t) (λ j. testReads (testAt r j) x)) in
+    d .tests-read .ensures x ∙ rw (d .before .count .ensures .0) (out-some (ltb x 32) (r .t) (λ j. testReads (testAt r j) x)) in
     let sides : has (c .sides-read .result) x ≡ (ltb x 32 && some (r .a) (λ j. sideReads (assignAt r j) x)) =
-    c .sides-read .ensures x ∙ rw (c .before .wide2 .ensures) (out-some (ltb x 32) (r .a) (λ j. sideReads (assignAt r j) x)) in
+    c .sides-read .ensures x ∙ rw (c .before .count2 .ensures .0) (out-some (ltb x 32) (r .a) (λ j. sideReads (assignAt r j) x)) in
     has-or (d .tests-read .result) (c .sides-read .result) x
     ∙ ap₂ _||_ tests sides
     ∙ sym (and-or-distrib-left (ltb x 32) (some (r .t) (λ j. testReads (testAt r j) x)) (some (r .a) (λ j. sideReads (assignAt r j) x)))
@@ -40,4 +40,4 @@ returns c =
 pub reads-spec : {M : Type 1} → statement M
 reads-spec =
     tie.close
-    (tie.spec wide-requires tests-read-requires wide-requires-2 sides-read-requires returns)
+    (tie.spec count-requires tests-read-requires count-requires-2 sides-read-requires returns)

@@ -7,8 +7,8 @@ use borrow.Author.Needs.{needs}
 use Rattle.uses.proofs.writes.Statement.{statement}
 use Rattle.uses.proofs.writes.Tie as tie
 
-wide-requires : tie.Need-wide-requires
-wide-requires c κs = search needs
+count-requires : tie.Need-count-requires
+count-requires c κs = search needs
 
 targets-requires : tie.Need-targets-requires
 targets-requires c κs = search needs
@@ -17,7 +17,7 @@ returns : tie.Need-returns
 unfolding writes
 returns c =
     let r = c .before .before .before .args .r in
-    λ x. c .targets .ensures x ∙ rw (c .before .wide .ensures) (out-some (ltb x 32) (r .a) (λ j. eqb x (assignAt r j .target)))
+    λ x. c .targets .ensures x ∙ rw (c .before .count .ensures .0) (out-some (ltb x 32) (r .a) (λ j. eqb x (assignAt r j .target)))
 
 pub writes-spec : {M : Type 1} → statement M
-writes-spec = tie.close (tie.spec wide-requires targets-requires returns)
+writes-spec = tie.close (tie.spec count-requires targets-requires returns)
