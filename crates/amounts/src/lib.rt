@@ -11,7 +11,7 @@ use rule::Rule;
 use rule::Test;
 
 // The amount of cell c; past the last it is 0.
-pub fn amount(cells: [i64; 32], c: usize) -> i64
+fn amount(cells: [i64; 32], c: usize) -> i64
     ensures { λ r. ⌜ r ≡ at cells c ⌝ }
 {
     if c < 32 {

@@ -38,7 +38,7 @@ pub fn sizes_bad(n: u8, k: u8) -> bool
 }
 
 // The row of the rules' precedes masks.
-pub fn precedes(t: Table) -> [u32; 32]
+fn precedes(t: Table) -> [u32; 32]
     requires { ⌜ t .n ≤ 32 ⌝ }
     ensures { λ q. ⌜ q ≡ precedesOf t ⌝ }
 {

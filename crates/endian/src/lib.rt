@@ -31,7 +31,7 @@ pub fn u32_at(s: &[u8], at: usize) -> u32
     a + 65536 * b
 }
 
-pub fn u64_at(s: &[u8], at: usize) -> u64
+fn u64_at(s: &[u8], at: usize) -> u64
     requires { ⌜ at + 8 ≤ length (now s) ⌝ }
     ensures { λ r. ⌜ r ≡ u64At (now (s .entry)) at ⌝ }
 {
@@ -41,7 +41,7 @@ pub fn u64_at(s: &[u8], at: usize) -> u64
 }
 
 // The number of 64 bits, read as two's complement.
-pub fn signed_of(x: u64) -> i64
+fn signed_of(x: u64) -> i64
     ensures { λ r. ⌜ r ≡ signed x ⌝ }
 {
     if x < 9223372036854775808 {
@@ -85,7 +85,7 @@ pub fn put_u32(out: &mut [u8], at: usize, x: u32)
     put_u16(out, at + 2, (x / 65536) as u16);
 }
 
-pub fn put_u64(out: &mut [u8], at: usize, x: u64)
+fn put_u64(out: &mut [u8], at: usize, x: u64)
     requires { ⌜ at + 8 ≤ length (now out) ⌝ }
     ensures { λ _. ⌜ now (out .exit) ≡ put (now (out .entry)) at (u64Bytes x) ⌝ }
 {
@@ -94,7 +94,7 @@ pub fn put_u64(out: &mut [u8], at: usize, x: u64)
 }
 
 // The 64 bits of a number in two's complement.
-pub fn unsigned_of(z: i64) -> u64
+fn unsigned_of(z: i64) -> u64
     ensures { λ r. ⌜ r ≡ unsigned z ⌝ }
 {
     if z < 0 {
@@ -109,4 +109,14 @@ pub fn put_i64(out: &mut [u8], at: usize, z: i64)
     ensures { λ _. ⌜ now (out .exit) ≡ put (now (out .entry)) at (i64Bytes z) ⌝ }
 {
     put_u64(out, at, unsigned_of(z));
+}
+
+// Bytes as they are.
+pub fn put_bytes(out: &mut [u8], at: usize, s: &[u8])
+    requires { ⌜ at + length (now s) ≤ length (now out) ⌝ }
+    ensures { λ _. ⌜ now (out .exit) ≡ put (now (out .entry)) at (now (s .entry)) ⌝ }
+{
+    for j in 0..s.len() {
+        out[at + j] = s[j];
+    }
 }

@@ -4,7 +4,7 @@ ghost use mathlib.Core.Bool.{cond};
 ghost use Prim.Native.Nat.{_≤_};
 ghost use lib.ListN.{length};
 ghost use Rattle.endian.specs.Put.{put};
-ghost use Rattle.layouts.specs.Layout.{headBytes, marksBytes, reportBytes};
+ghost use Rattle.layouts.specs.Layout.{headBytes, reportBytes};
 use judging::Report;
 
 fn flag(b: bool) -> u8
@@ -28,19 +28,10 @@ fn put_head(out: &mut [u8], r: Report)
     endian::put_u16(out, 14, 0);
 }
 
-fn put_marks(out: &mut [u8], marks: [u8; 496])
-    requires { ⌜ 512 ≤ length (now out) ⌝ }
-    ensures { λ _. ⌜ now (out .exit) ≡ put (now (out .entry)) 16 (marksBytes marks 496) ⌝ }
-{
-    for i in 0..496 {
-        out[16 + i] = marks[i];
-    }
-}
-
 pub fn store_report(r: Report, out: &mut [u8; 512])
     ensures { λ _. ⌜ now (out .exit) ≡ reportBytes r ⌝ }
 {
     let marks = r.marks;
     put_head(out, r);
-    put_marks(out, marks);
+    endian::put_bytes(out, 16, &marks);
 }

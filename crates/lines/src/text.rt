@@ -110,8 +110,6 @@ pub fn copy(t: Text, out: &mut [u8]) -> usize
     if out.len() < n {
         return 0;
     }
-    for j in 0..n {
-        out[j] = b[j];
-    }
+    endian::put_bytes(out, 0, &b[..n]);
     n
 }

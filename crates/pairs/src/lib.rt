@@ -31,7 +31,7 @@ pub struct Judgement {
 }
 
 // The numbers whose mask in the row shares a member with m.
-pub fn touching(rows: [u32; 32], m: u32) -> u32
+fn touching(rows: [u32; 32], m: u32) -> u32
     ensures { λ r. ⌜ ((s : ℕ) → has r s ≡ meet (getD rows s 0) m) ⌝ }
 {
     let mut a = 0;
@@ -92,7 +92,7 @@ fn grow(trig: [u32; 32], before: [u32; 32], a: u32, b: u32) -> u32
 }
 
 // R1 and R2, grown from i and j until nothing changes.
-pub fn grown(trig: [u32; 32], before: [u32; 32], i: usize, j: usize) -> Sets
+fn grown(trig: [u32; 32], before: [u32; 32], i: usize, j: usize) -> Sets
     requires { ⌜ (i < 32) × (j < 32) ⌝ }
     ensures { λ r. ⌜ Grew trig before i j (r .first) (r .second) ⌝ }
 {

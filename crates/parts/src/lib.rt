@@ -7,7 +7,7 @@ use rule::Assign;
 use rule::Rule;
 use rule::Test;
 
-pub fn read_test(s: &[u8], at: usize) -> Test
+fn read_test(s: &[u8], at: usize) -> Test
     requires { ⌜ at + 12 ≤ length (now s) ⌝ }
     ensures { λ r. ⌜ r ≡ testIn (now (s .entry)) at ⌝ }
 {
@@ -21,7 +21,7 @@ pub fn read_test(s: &[u8], at: usize) -> Test
     }
 }
 
-pub fn read_tests(s: &[u8], at: usize, t: usize) -> [Test; 8]
+fn read_tests(s: &[u8], at: usize, t: usize) -> [Test; 8]
     requires { ⌜ (t ≤ 8) × (at + 12 * t ≤ length (now s)) ⌝ }
     ensures { λ r. ⌜ r ≡ testsIn (now (s .entry)) at t ⌝ }
 {
@@ -33,7 +33,7 @@ pub fn read_tests(s: &[u8], at: usize, t: usize) -> [Test; 8]
     out
 }
 
-pub fn read_assign(s: &[u8], at: usize) -> Assign
+fn read_assign(s: &[u8], at: usize) -> Assign
     requires { ⌜ at + 20 ≤ length (now s) ⌝ }
     ensures { λ r. ⌜ r ≡ assignIn (now (s .entry)) at ⌝ }
 {
@@ -51,7 +51,7 @@ pub fn read_assign(s: &[u8], at: usize) -> Assign
     }
 }
 
-pub fn read_assigns(s: &[u8], at: usize, a: usize) -> [Assign; 8]
+fn read_assigns(s: &[u8], at: usize, a: usize) -> [Assign; 8]
     requires { ⌜ (a ≤ 8) × (at + 20 * a ≤ length (now s)) ⌝ }
     ensures { λ r. ⌜ r ≡ assignsIn (now (s .entry)) at a ⌝ }
 {
@@ -63,7 +63,7 @@ pub fn read_assigns(s: &[u8], at: usize, a: usize) -> [Assign; 8]
     out
 }
 
-pub fn read_name(s: &[u8], at: usize, m: usize) -> [u8; 16]
+fn read_name(s: &[u8], at: usize, m: usize) -> [u8; 16]
     requires { ⌜ (m ≤ 16) × (at + m ≤ length (now s)) ⌝ }
     ensures { λ r. ⌜ r ≡ nameIn (now (s .entry)) at m ⌝ }
 {

@@ -10,7 +10,7 @@ use rule::Assign;
 use rule::Rule;
 use rule::Test;
 
-pub fn write_test(out: &mut [u8], at: usize, x: Test)
+fn write_test(out: &mut [u8], at: usize, x: Test)
     requires { ⌜ at + 12 ≤ length (now out) ⌝ }
     ensures { λ _. ⌜ now (out .exit) ≡ put (now (out .entry)) at (testBytes x) ⌝ }
 {
@@ -18,7 +18,7 @@ pub fn write_test(out: &mut [u8], at: usize, x: Test)
     endian::put_i64(out, at + 4, x.constant);
 }
 
-pub fn write_tests(out: &mut [u8], at: usize, tests: [Test; 8], t: usize)
+fn write_tests(out: &mut [u8], at: usize, tests: [Test; 8], t: usize)
     requires { ⌜ (t ≤ 8) × (at + 12 * t ≤ length (now out)) ⌝ }
     ensures { λ _. ⌜ now (out .exit) ≡ put (now (out .entry)) at (testsBytes tests t) ⌝ }
 {
@@ -27,7 +27,7 @@ pub fn write_tests(out: &mut [u8], at: usize, tests: [Test; 8], t: usize)
     }
 }
 
-pub fn write_assign(out: &mut [u8], at: usize, x: Assign)
+fn write_assign(out: &mut [u8], at: usize, x: Assign)
     requires { ⌜ at + 20 ≤ length (now out) ⌝ }
     ensures { λ _. ⌜ now (out .exit) ≡ put (now (out .entry)) at (assignBytes x) ⌝ }
 {
@@ -37,7 +37,7 @@ pub fn write_assign(out: &mut [u8], at: usize, x: Assign)
     endian::put_u32(out, at + 16, x.q);
 }
 
-pub fn write_assigns(out: &mut [u8], at: usize, assigns: [Assign; 8], a: usize)
+fn write_assigns(out: &mut [u8], at: usize, assigns: [Assign; 8], a: usize)
     requires { ⌜ (a ≤ 8) × (at + 20 * a ≤ length (now out)) ⌝ }
     ensures { λ _. ⌜ now (out .exit) ≡ put (now (out .entry)) at (assignsBytes assigns a) ⌝ }
 {
@@ -46,13 +46,11 @@ pub fn write_assigns(out: &mut [u8], at: usize, assigns: [Assign; 8], a: usize)
     }
 }
 
-pub fn write_name(out: &mut [u8], at: usize, name: [u8; 16], m: usize)
+fn write_name(out: &mut [u8], at: usize, name: [u8; 16], m: usize)
     requires { ⌜ (m ≤ 16) × (at + m ≤ length (now out)) ⌝ }
     ensures { λ _. ⌜ now (out .exit) ≡ put (now (out .entry)) at (nameBytes name m) ⌝ }
 {
-    for j in 0..m {
-        out[at + j] = name[j];
-    }
+    endian::put_bytes(out, at, &name[..m]);
 }
 
 fn write_head(out: &mut [u8], at: usize, r: Rule)

@@ -5,8 +5,8 @@ use mathlib.Core.List.{List, [], _∷_, _++_}
 use Prim.Native.Nat.{ℕ, zero, suc, _+_, _-_, _<_, _≤_}
 use native.Mathlib.Numerals.{add-one}
 use native.Mathlib.Omega.{arith}
-use lib.ListN.{length, set, replicate, length-append, length-replicate, getD, getD-replicate, List·getD-append}
-use lib.Seq.{set-at, append-snoc, getD-append-add, getD-at}
+use lib.ListN.{length, take, set, replicate, length-append, length-replicate, getD, getD-replicate, List·getD-append}
+use lib.Seq.{set-at, append-snoc, getD-append-add, getD-at, take-suc}
 use borrow.Author.Count.{below-more}
 
 module _ {A : Type 0} where
@@ -45,6 +45,12 @@ module _ {A : Type 0} where
       (getD-at (upto n f) (f n) [] d n (length-upto n f))
       i
       (rw add-one h)
+
+  -- the first of a list, taken one by one
+  pub upto-take : (xs : List A) (d : A) (n : ℕ) → n ≤ length xs → upto n (λ j. getD xs j d) ≡ take n xs
+  upto-take xs d zero h = refl
+  upto-take xs d (suc n) h =
+      ap (λ (l : List A). l ++ (getD xs n d ∷ [])) (upto-take xs d n (omega arith)) ∙ sym (take-suc xs n d (omega arith))
 
   -- a filled slot
   pub getD-filled : (N : ℕ) (d : A) (f : ℕ → A) (n : ℕ) (e : A) (i : ℕ) → i < n → getD (filled N d f n) i e ≡ f i

@@ -1,87 +1,51 @@
--- The first j bytes of the text stand in the buffer, and the rest is as it was.
-use mathlib.Core.Path.{_≡_, refl, sym, ap, _∙_}
+-- Too short, the buffer is as it was; else the text stands at its start.
+use mathlib.Core.Path.{refl, sym, ap}
 use mathlib.Core.List.{List}
-use Prim.Native.Nat.{ℕ, _+_, _-_, _≤_, _<_}
-use native.Mathlib.Numerals.{add-one}
 use native.Mathlib.Omega.{arith}
-use lib.ListN.{length, take, getD, set, length-set}
-use lib.Seq.{take-suc, length-take-le}
+use lib.ListN.{length}
+use lib.Seq.{length-take-le}
 use borrow.Author.Tests.{lt-ltb, le-ltb}
-use Rattle.endian.specs.Put.{put, put-nil, put-store}
+use borrow.Author.Needs.{needs}
 use Rattle.lines.proofs.text.copy.Statement.{statement}
 use Rattle.lines.proofs.text.copy.Tie as tie
 
-abbrev Inv-loop : tie.InvT-loop
-Inv-loop out₀ n b j₀ out j =
-    (j ≤ n) × (n ≤ length out₀) × (n ≤ length b) × (length b ≡ 512) × (length out ≡ length out₀) × (out ≡ put out₀ 0 (take j b))
-
-abbrev μ-loop : tie.MeasureT-loop
-μ-loop out₀ n b j₀ out j = n - j
-
-returns : tie.Need-returns Inv-loop μ-loop
+returns : tie.Need-returns
 returns c =
-    let a = c .before .before .args in
-    let n = length-take-le (a .t .len) (a .t .bytes) (omega (arith, c .before .before .pre)) in
+    let s = c .before .before .before in
+    let a = s .args in
+    let n = length-take-le (a .t .len) (a .t .bytes) (omega (arith, s .pre)) in
     rw (n, lt-ltb (length (a .out .now)) (a .t .len) (omega arith)) refl
 
-loop-holds : tie.Need-loop-holds Inv-loop μ-loop
-loop-holds c =
-    let a = c .before .before .args in
-    (omega arith, omega arith, omega (arith, c .before .before .pre), c .before .before .pre .whole, refl, sym (put-nil (a .out .now) 0))
+array-share-prefix-b : tie.Need-array-share-prefix-b
+array-share-prefix-b c = search needs
 
-array-read-out : tie.Need-array-read-out Inv-loop μ-loop
-array-read-out c = omega arith
+slice-aggregate-put-bytes : tie.Need-slice-aggregate-put-bytes
+slice-aggregate-put-bytes c = sym (length-take-le _ _ (array-share-prefix-b (c .before)))
 
-slice-write-out : tie.Need-slice-write-out Inv-loop μ-loop
-slice-write-out c = omega arith
+put-bytes-requires : tie.Need-put-bytes-requires
+put-bytes-requires c κs =
+    let a = c .before .before .before .before .before .args in
+    omega (arith, length-take-le (a .t .len) (a .t .bytes) (array-share-prefix-b (c .before)))
 
-add-j : tie.Need-add-j Inv-loop μ-loop
-add-j c = omega arith
+same-length : tie.Need-same-length
+same-length c = search needs
 
-loop-less : tie.Need-loop-less Inv-loop μ-loop
-loop-less c = omega arith
-
-loop-again : tie.Need-loop-again Inv-loop μ-loop
-loop-again c =
-    let d = c .before .before .before .before .args .out .now in
-    let b = c .before .before .before .before .args .t .bytes in
-    let at = c .before .loop in
-    let l : at .j < length b = omega arith in
-    let e : at .j ≡ 0 + length (take (at .j) b) = rw (length-take-le (at .j) b (omega arith)) (omega arith) in (
-      omega arith,
-      at .inv .1,
-      at .inv .2,
-      at .inv .3,
-      length-set (at .out) (at .j) (getD b (at .j) 0) ∙ at .inv .4,
-      ap (λ (x : List ℕ). set x (at .j) (getD b (at .j) 0)) (at .inv .5)
-          ∙ (put-store d 0 (take (at .j) b) (at .j) e (omega arith) (getD b (at .j) 0)
-          ∙ rw (add-one, take-suc b (at .j) 0 l) refl),
-    )
-
-same-length : tie.Need-same-length Inv-loop μ-loop
-same-length c = omega arith
-
-returns-2 : tie.Need-returns-2 Inv-loop μ-loop
+returns-2 : tie.Need-returns-2
 returns-2 c =
-    let a = c .before .before .before .before .args in
-    let at = c .before .loop in
-    let n = length-take-le (a .t .len) (a .t .bytes) (at .inv .2) in
-    let e : at .j ≡ a .t .len = omega arith in
-    rw (n, le-ltb (length (a .out .now)) (a .t .len) (at .inv .1))
-    (ap (λ (x : List ℕ). (a .t .len, x)) (at .inv .5 ∙ ap (λ (j : ℕ). put (a .out .now) 0 (take j (a .t .bytes))) e))
+    let p = c .before .before in
+    let e = p .before .before in
+    let a = e .before .before .before .before .args in
+    let n = length-take-le (a .t .len) (a .t .bytes) (array-share-prefix-b e) in
+    rw (n, le-ltb (length (a .out .now)) (a .t .len) (omega (arith, e .before .if1 .left)))
+    (ap (λ (x : List _). (a .t .len, x)) (p .put-bytes .ensures))
 
 pub copy-spec : {M : Type 1} → statement M
 copy-spec =
     tie.close
     (tie.spec
-    Inv-loop
-    μ-loop
     returns
-    loop-holds
-    array-read-out
-    slice-write-out
-    add-j
-    loop-less
-    loop-again
+    array-share-prefix-b
+    slice-aggregate-put-bytes
+    put-bytes-requires
     same-length
     returns-2)
