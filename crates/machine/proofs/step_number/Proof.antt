@@ -1,6 +1,6 @@
 -- Each return is the first case of `stepNumber` whose test held; the tests before it did not.
-use mathlib.Core.Path.{_≡_, ap, _∙_}
-use mathlib.Core.Bool.{Bool, _&&_}
+use mathlib.Core.Path.{_≡_, refl, ap, _∙_}
+use mathlib.Core.Bool.{Bool, cond, _&&_}
 use Prim.Native.Nat.{_<_}
 use native.Mathlib.Omega.{arith}
 use lib.ListN.{getD}
@@ -80,35 +80,31 @@ holder c =
     (λ x. waits (a .s) x && goesBefore (a .t) x (a .r))
     (λ x l. ap (λ (b : Bool). waits (a .s) x && b) (c .before .before .goes-before .ensures x (a .r)))
 
-returns-4 : tie.Need-returns-4
+-- past the first three tests the last decides
+last : (c : tie.After-has2)
+    → let a = c .before .before .before .before .before .before .before .before .before .args in
+    stepNumber (a .t) (a .s) (a .r) ≡ cond (c .has2 .result) 14 0
 unfolding stepNumber
-returns-4 c =
-    let d = c .before .before .before .before .before .before in
-    let a = c .before .before .before .before .before .before .before .before .before .before .args in
+last c =
+    let e = c .before .before .before in
+    let d = e .before .before in
+    let b = d .before .before in
+    let a = b .before .before .args in
     rw (
-      ← c .before .before .before .before .before .before .before .before .before .state-bad .ensures,
-      c .before .before .before .before .before .before .before .before .if1 .left,
+      ← b .before .state-bad .ensures,
+      b .if1 .left,
       lt-leb (a .t .n) (a .r) (below d),
-      ← c .before .before .before .before .before .has .ensures,
-      c .before .before .before .before .if3 .left,
-      ← holder (c .before),
-      c .if4 .taken,
+      ← e .before .has .ensures,
+      e .if3 .left,
+      ← holder c,
     )
+    refl
+
+returns-4 : tie.Need-returns-4
+returns-4 c = rw (last (c .before), c .if4 .taken) refl
 
 returns-5 : tie.Need-returns-5
-unfolding stepNumber
-returns-5 c =
-    let d = c .before .before .before .before .before .before in
-    let a = c .before .before .before .before .before .before .before .before .before .before .args in
-    rw (
-      ← c .before .before .before .before .before .before .before .before .before .state-bad .ensures,
-      c .before .before .before .before .before .before .before .before .if1 .left,
-      lt-leb (a .t .n) (a .r) (below d),
-      ← c .before .before .before .before .before .has .ensures,
-      c .before .before .before .before .if3 .left,
-      ← holder (c .before),
-      c .if4 .left,
-    )
+returns-5 c = rw (last (c .before), c .if4 .left) refl
 
 pub step-number-spec : {M : Type 1} → statement M
 step-number-spec =

@@ -1,5 +1,6 @@
 -- Each return is the first case of `ruleNumber` whose test held; the tests before it did not.
-use mathlib.Core.Path.{sym, _∙_}
+use mathlib.Core.Path.{_≡_, refl, sym, _∙_}
+use mathlib.Core.Bool.{cond, _||_}
 use Rattle.rule.specs.Numbers.{ruleNumber}
 use Rattle.rule.specs.NumbersLaws.{Counted, counted}
 use borrow.Author.Needs.{needs}
@@ -69,10 +70,13 @@ letters-bad-requires c κs = counts (c .before .before .before .before .before .
 name-taken-requires : tie.Need-name-taken-requires
 name-taken-requires c κs = (search needs, counts (c .before .before .before .before .before .before .before) .letters)
 
-returns-5 : tie.Need-returns-5
+-- past the first four tests the last decides
+last : (c : tie.After-name-taken)
+    → let a = c .before .before .before .before .before .before .before .before .before .before .args in
+    ruleNumber (a .n) (a .k) (a .rules) (a .i) (a .r) ≡ cond (c .before .letters-bad .result || c .name-taken .result) 9 0
 unfolding ruleNumber
-returns-5 c =
-    let g = c .before .before .before in
+last c =
+    let g = c .before .before in
     let f = g .before .before in
     let e = f .before .before in
     let d = e .before .before in
@@ -85,31 +89,16 @@ returns-5 c =
       f .if3 .left,
       ← g .before .twice .ensures,
       g .if4 .left,
-      ← c .before .before .letters-bad .ensures,
-      ← c .before .name-taken .ensures,
-      c .if5 .taken,
+      ← c .before .letters-bad .ensures,
+      ← c .name-taken .ensures,
     )
+    refl
+
+returns-5 : tie.Need-returns-5
+returns-5 c = rw (last (c .before), c .if5 .taken) refl
 
 returns-6 : tie.Need-returns-6
-unfolding ruleNumber
-returns-6 c =
-    let g = c .before .before .before in
-    let f = g .before .before in
-    let e = f .before .before in
-    let d = e .before .before in
-    rw (
-      ← d .before .counts-bad .ensures,
-      d .if1 .left,
-      ← e .before .cells-bad .ensures,
-      e .if2 .left,
-      ← f .before .forms-bad .ensures,
-      f .if3 .left,
-      ← g .before .twice .ensures,
-      g .if4 .left,
-      ← c .before .before .letters-bad .ensures,
-      ← c .before .name-taken .ensures,
-      c .if5 .left,
-    )
+returns-6 c = rw (last (c .before), c .if5 .left) refl
 
 pub rule-number-spec : {M : Type 1} → statement M
 rule-number-spec =
