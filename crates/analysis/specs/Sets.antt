@@ -1,7 +1,7 @@
 -- The masks of a table are the sets of cells that its rules watch, read and write, and what the analysis makes of them is said in
 -- those sets. Assumes nothing.
 use mathlib.Core.Path.{_≡_, sym, ap, ap₂, _∙_}
-use mathlib.Core.Bool.{Bool, true, false, _&&_, _||_, false≢true, or-true}
+use mathlib.Core.Bool.{Bool, true, _&&_, _||_, false≢true, or-true}
 use Prim.Native.Nat.{ℕ, _<_}
 use lib.ListN.{getD}
 use Rattle.mask.specs.SearchLaws.{some-intro}

@@ -1,6 +1,6 @@
 -- Every case marked P in the paper, and the one claim: all hold. A row is the paper's sentence and what it says. The
 -- last rows are unmarked sums that also compute. Assumes nothing.
-use mathlib.Core.Path.{_≡_, refl, _∙_}
+use mathlib.Core.Path.{refl}
 use mathlib.Core.List.{List, [], _∷_}
 use Prim.Native.Nat.{ℕ}
 use Prim.Native.String.{String}

@@ -13,7 +13,7 @@ use Rattle.mask.specs.Bits.{has-zero}
 use Rattle.graph.specs.Graph.{leads}
 use Rattle.weights.specs.Weight.{total, weightOf}
 use Rattle.pairs.specs.declared.Masks.{Masks}
-use Rattle.pairs.specs.Masks.{mayTrigger, commute, triggers}
+use Rattle.pairs.specs.Masks.{mayTrigger, commute}
 use Rattle.judging.specs.declared.Report.{Report}
 use Rattle.judging.specs.declared.Bound.{Bound}
 use Rattle.judging.specs.Cleared.{Orderly, Faulty}

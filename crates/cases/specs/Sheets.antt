@@ -1,5 +1,5 @@
 -- The rules of the paper's books, written out, with what a report on each says. Assumes nothing.
-use mathlib.Core.Path.{_≡_, refl}
+use mathlib.Core.Path.{refl}
 use mathlib.Core.Bool.{true, false}
 use mathlib.Core.List.{[], _∷_}
 use Rattle.mask.specs.Search as Search

@@ -7,7 +7,7 @@ use Rattle.endian.specs.Little.{u32At}
 use Rattle.rule.specs.Fill.{upto, length-upto, getD-upto}
 use Rattle.judging.specs.declared.Report.{Report}
 use Rattle.editor.specs.declared.Record.{Record}
-use Rattle.editor.specs.Rows.{noRecord, recordAt, rowMasks, RowsSay}
+use Rattle.editor.specs.Rows.{noRecord, rowMasks, RowsSay}
 use Rattle.editor.specs.Copying.{withRow, copyTo}
 use Rattle.editor.specs.CopyingLaws.{copy-more, row-says}
 

@@ -9,7 +9,7 @@ use native.Mathlib.Omega.{arith}
 use lib.ListN.{length}
 use borrow.Author.Tests.{lt-ltb, le-ltb}
 use Rattle.mask.specs.SearchLaws.{lt-or-ge}
-use Rattle.rule.specs.Fill.{filled, filled-more}
+use Rattle.rule.specs.Fill.{filled-more}
 use Rattle.book.specs.declared.Answer.{Answer}
 use Rattle.book.specs.Check.{answer}
 use Rattle.pairs.specs.declared.Masks.{Masks}

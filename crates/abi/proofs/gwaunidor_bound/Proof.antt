@@ -6,15 +6,6 @@ use Rattle.analysis.specs.Says.{BoundSays}
 use Rattle.abi.proofs.gwaunidor_bound.Statement.{statement}
 use Rattle.abi.proofs.gwaunidor_bound.Tie as tie
 
-load-requires : tie.Need-load-requires
-load-requires c κs = search needs
-
-bound-requires : tie.Need-bound-requires
-bound-requires c κs = search needs
-
-code-requires : tie.Need-code-requires
-code-requires c κs = search needs
-
 returns : tie.Need-returns
 returns c =
     let p = c .before in
@@ -27,4 +18,4 @@ returns c =
     }
 
 pub gwaunidor-bound-spec : {M : Type 1} → statement M
-gwaunidor-bound-spec = tie.close (tie.spec load-requires bound-requires code-requires returns)
+gwaunidor-bound-spec = tie.close (tie.spec (λ c κs. search needs) (λ c κs. search needs) (λ c κs. search needs) returns)

@@ -7,15 +7,6 @@ use Rattle.abi.specs.Code.{codeOf}
 use Rattle.abi.proofs.gwaunidor_check.Statement.{statement}
 use Rattle.abi.proofs.gwaunidor_check.Tie as tie
 
-load-requires : tie.Need-load-requires
-load-requires c κs = search needs
-
-check-requires : tie.Need-check-requires
-check-requires c κs = search needs
-
-code-requires : tie.Need-code-requires
-code-requires c κs = search needs
-
 returns : tie.Need-returns
 returns c =
     c .code .ensures
@@ -23,4 +14,4 @@ returns c =
     (c .before .check .ensures ∙ ap checkOf (c .before .before .load .ensures))
 
 pub gwaunidor-check-spec : {M : Type 1} → statement M
-gwaunidor-check-spec = tie.close (tie.spec load-requires check-requires code-requires returns)
+gwaunidor-check-spec = tie.close (tie.spec (λ c κs. search needs) (λ c κs. search needs) (λ c κs. search needs) returns)

@@ -7,18 +7,6 @@ use Rattle.abi.specs.Moves.{MovedTo}
 use Rattle.abi.proofs.gwaunidor_fresh.Statement.{statement}
 use Rattle.abi.proofs.gwaunidor_fresh.Tie as tie
 
-load-cells-requires : tie.Need-load-cells-requires
-load-cells-requires c κs = search needs
-
-load-requires : tie.Need-load-requires
-load-requires c κs = search needs
-
-fresh-requires : tie.Need-fresh-requires
-fresh-requires c κs = search needs
-
-give-requires : tie.Need-give-requires
-give-requires c κs = search needs
-
 returns : tie.Need-returns
 returns c =
     let p = c .before .before in
@@ -29,4 +17,4 @@ returns c =
 
 pub gwaunidor-fresh-spec : {M : Type 1} → statement M
 gwaunidor-fresh-spec =
-    tie.close (tie.spec load-cells-requires load-requires fresh-requires give-requires returns)
+    tie.close (tie.spec (λ c κs. search needs) (λ c κs. search needs) (λ c κs. search needs) (λ c κs. search needs) returns)

@@ -11,18 +11,6 @@ use Rattle.abi.specs.Moves.{MovedTo}
 use Rattle.abi.proofs.gwaunidor_post.Statement.{statement}
 use Rattle.abi.proofs.gwaunidor_post.Tie as tie
 
-load-state-requires : tie.Need-load-state-requires
-load-state-requires c κs = search needs
-
-load-requires : tie.Need-load-requires
-load-requires c κs = search needs
-
-post-requires : tie.Need-post-requires
-post-requires c κs = search needs
-
-give-requires : tie.Need-give-requires
-give-requires c κs = search needs
-
 returns : tie.Need-returns
 returns c =
     let p = c .before .before in
@@ -39,4 +27,4 @@ returns c =
 
 pub gwaunidor-post-spec : {M : Type 1} → statement M
 gwaunidor-post-spec =
-    tie.close (tie.spec load-state-requires load-requires post-requires give-requires returns)
+    tie.close (tie.spec (λ c κs. search needs) (λ c κs. search needs) (λ c κs. search needs) (λ c κs. search needs) returns)

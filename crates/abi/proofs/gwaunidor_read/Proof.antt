@@ -7,15 +7,6 @@ use Rattle.abi.specs.Code.{codeOf}
 use Rattle.abi.proofs.gwaunidor_read.Statement.{statement}
 use Rattle.abi.proofs.gwaunidor_read.Tie as tie
 
-read-requires : tie.Need-read-requires
-read-requires c κs = search needs
-
-store-requires : tie.Need-store-requires
-store-requires c κs = search needs
-
-code-requires : tie.Need-code-requires
-code-requires c κs = search needs
-
 returns : tie.Need-returns
 returns c =
     let e = c .before .before .before .before .read .ensures in (
@@ -24,4 +15,4 @@ returns c =
     )
 
 pub gwaunidor-read-spec : {M : Type 1} → statement M
-gwaunidor-read-spec = tie.close (tie.spec read-requires store-requires code-requires returns)
+gwaunidor-read-spec = tie.close (tie.spec (λ c κs. search needs) (λ c κs. search needs) (λ c κs. search needs) returns)

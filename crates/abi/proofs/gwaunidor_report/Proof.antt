@@ -6,18 +6,6 @@ use Rattle.analysis.specs.Says.{ReportSays}
 use Rattle.abi.proofs.gwaunidor_report.Statement.{statement}
 use Rattle.abi.proofs.gwaunidor_report.Tie as tie
 
-load-requires : tie.Need-load-requires
-load-requires c κs = search needs
-
-report-requires : tie.Need-report-requires
-report-requires c κs = search needs
-
-store-report-requires : tie.Need-store-report-requires
-store-report-requires c κs = search needs
-
-code-requires : tie.Need-code-requires
-code-requires c κs = search needs
-
 returns : tie.Need-returns
 returns c =
     let p = c .before .before .before in
@@ -30,4 +18,4 @@ returns c =
 
 pub gwaunidor-report-spec : {M : Type 1} → statement M
 gwaunidor-report-spec =
-    tie.close (tie.spec load-requires report-requires store-report-requires code-requires returns)
+    tie.close (tie.spec (λ c κs. search needs) (λ c κs. search needs) (λ c κs. search needs) (λ c κs. search needs) returns)

@@ -3,15 +3,6 @@ use borrow.Author.Needs.{needs}
 use Rattle.abi.proofs.gwaunidor_rows.Statement.{statement}
 use Rattle.abi.proofs.gwaunidor_rows.Tie as tie
 
-report-of-bytes-requires : tie.Need-report-of-bytes-requires
-report-of-bytes-requires c κs = search needs
-
-store-report-requires : tie.Need-store-report-requires
-store-report-requires c κs = search needs
-
-code-requires : tie.Need-code-requires
-code-requires c κs = search needs
-
 returns : tie.Need-returns
 returns c =
     let p = c .before .before .before in
@@ -24,4 +15,4 @@ returns c =
 
 pub gwaunidor-rows-spec : {M : Type 1} → statement M
 gwaunidor-rows-spec =
-    tie.close (tie.spec report-of-bytes-requires store-report-requires code-requires returns)
+    tie.close (tie.spec (λ c κs. search needs) (λ c κs. search needs) (λ c κs. search needs) returns)

@@ -9,21 +9,6 @@ use Rattle.abi.specs.Moves.{RanTo}
 use Rattle.abi.proofs.gwaunidor_run.Statement.{statement}
 use Rattle.abi.proofs.gwaunidor_run.Tie as tie
 
-load-state-requires : tie.Need-load-state-requires
-load-state-requires c κs = search needs
-
-load-requires : tie.Need-load-requires
-load-requires c κs = search needs
-
-run-requires : tie.Need-run-requires
-run-requires c κs = search needs
-
-store-state-requires : tie.Need-store-state-requires
-store-state-requires c κs = search needs
-
-code-requires : tie.Need-code-requires
-code-requires c κs = search needs
-
 returns : tie.Need-returns
 returns c =
     let w = c .before in
@@ -37,4 +22,4 @@ returns c =
 
 pub gwaunidor-run-spec : {M : Type 1} → statement M
 gwaunidor-run-spec =
-    tie.close (tie.spec load-state-requires load-requires run-requires store-state-requires code-requires returns)
+    tie.close (tie.spec (λ c κs. search needs) (λ c κs. search needs) (λ c κs. search needs) (λ c κs. search needs) (λ c κs. search needs) returns)

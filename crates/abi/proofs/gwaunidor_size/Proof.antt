@@ -9,20 +9,11 @@ use Rattle.abi.specs.Writes.{size-most}
 use Rattle.abi.proofs.gwaunidor_size.Statement.{statement}
 use Rattle.abi.proofs.gwaunidor_size.Tie as tie
 
-load-requires : tie.Need-load-requires
-load-requires c κs = search needs
-
-size-requires : tie.Need-size-requires
-size-requires c κs = search needs
-
 cast-size : tie.Need-cast-size
 cast-size c =
     let s = c .before in
     let e = ap (λ (w : Written). w .length) (s .size .ensures) in
     record { fits = omega (arith, e, size-most (s .before .load .result)) }
-
-code-requires : tie.Need-code-requires
-code-requires c κs = search needs
 
 returns : tie.Need-returns
 returns c =
@@ -34,4 +25,4 @@ returns c =
     }
 
 pub gwaunidor-size-spec : {M : Type 1} → statement M
-gwaunidor-size-spec = tie.close (tie.spec load-requires size-requires cast-size code-requires returns)
+gwaunidor-size-spec = tie.close (tie.spec (λ c κs. search needs) (λ c κs. search needs) cast-size (λ c κs. search needs) returns)

@@ -9,18 +9,6 @@ use Rattle.abi.specs.Moves.{MovedTo}
 use Rattle.abi.proofs.gwaunidor_step.Statement.{statement}
 use Rattle.abi.proofs.gwaunidor_step.Tie as tie
 
-load-state-requires : tie.Need-load-state-requires
-load-state-requires c κs = search needs
-
-load-requires : tie.Need-load-requires
-load-requires c κs = search needs
-
-step-requires : tie.Need-step-requires
-step-requires c κs = search needs
-
-give-requires : tie.Need-give-requires
-give-requires c κs = search needs
-
 returns : tie.Need-returns
 returns c =
     let p = c .before .before in
@@ -33,4 +21,4 @@ returns c =
 
 pub gwaunidor-step-spec : {M : Type 1} → statement M
 gwaunidor-step-spec =
-    tie.close (tie.spec load-state-requires load-requires step-requires give-requires returns)
+    tie.close (tie.spec (λ c κs. search needs) (λ c κs. search needs) (λ c κs. search needs) (λ c κs. search needs) returns)

@@ -12,24 +12,12 @@ use Rattle.abi.specs.Writes.{write-most}
 use Rattle.abi.proofs.gwaunidor_write.Statement.{statement}
 use Rattle.abi.proofs.gwaunidor_write.Tie as tie
 
-load-requires : tie.Need-load-requires
-load-requires c κs = search needs
-
-write-requires : tie.Need-write-requires
-write-requires c κs = search needs
-
 cast-written : tie.Need-cast-written
 cast-written c =
     let p = c .before .before .before in
     let l = p .before .before in
     let e = ap (λ (w : Written × List ℕ). w .0 .length) (p .write .ensures) in
     record { fits = omega (arith, e, write-most (l .load .result) (l .before .before .args .out .now)) }
-
-code-requires : tie.Need-code-requires
-code-requires c κs = search needs
-
-same-length : tie.Need-same-length
-same-length c = search needs
 
 returns : tie.Need-returns
 returns c =
@@ -45,4 +33,4 @@ returns c =
 pub gwaunidor-write-spec : {M : Type 1} → statement M
 gwaunidor-write-spec =
     tie.close
-    (tie.spec load-requires write-requires cast-written code-requires same-length returns)
+    (tie.spec (λ c κs. search needs) (λ c κs. search needs) cast-written (λ c κs. search needs) (λ c. search needs) returns)

@@ -7,15 +7,6 @@ use lib.IntN.{pos}
 use Rattle.amounts.proofs.amount.Statement.{statement}
 use Rattle.amounts.proofs.amount.Tie as tie
 
-mul-result : tie.Need-mul-result
-mul-result c = search needs
-
-array-copy-out-result : tie.Need-array-copy-out-result
-array-copy-out-result c = search needs
-
-returns : tie.Need-returns
-returns c = search needs
-
 returns-2 : tie.Need-returns-2
 returns-2 c =
     let cells = c .before .args .t1 in
@@ -23,4 +14,4 @@ returns-2 c =
     sym (List·getD-eq-default cells (pos 0) (omega arith))
 
 pub amount-spec : {M : Type 1} → statement M
-amount-spec = tie.close (tie.spec mul-result array-copy-out-result returns returns-2)
+amount-spec = tie.close (tie.spec (λ c. search needs) (λ c. search needs) (λ c. search needs) returns-2)

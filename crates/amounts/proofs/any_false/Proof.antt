@@ -16,26 +16,8 @@ Inv-loop cells tests t found₀ j₀ found j = (j ≤ t) × Sought (λ i. not (h
 abbrev μ-loop : tie.MeasureT-loop
 μ-loop cells tests t found₀ j₀ found j = t - j
 
-count-requires : tie.Need-count-requires Inv-loop μ-loop
-count-requires c κs = search needs
-
 loop-holds : tie.Need-loop-holds Inv-loop μ-loop
 loop-holds c = (search needs, sought-none)
-
-mul-holds : tie.Need-mul-holds Inv-loop μ-loop
-mul-holds c = search needs
-
-array-copy-out-holds : tie.Need-array-copy-out-holds Inv-loop μ-loop
-array-copy-out-holds c = search needs
-
-holds-requires : tie.Need-holds-requires Inv-loop μ-loop
-holds-requires c κs = search needs
-
-add-j : tie.Need-add-j Inv-loop μ-loop
-add-j c = search needs
-
-loop-less : tie.Need-loop-less Inv-loop μ-loop
-loop-less c = search needs
 
 loop-again : tie.Need-loop-again Inv-loop μ-loop
 loop-again c = (search needs, sought-more (c .before .before .before .loop .inv .1) (ap not (c .holds .ensures)))
@@ -52,12 +34,12 @@ any-false-spec =
     (tie.spec
     Inv-loop
     μ-loop
-    count-requires
+    (λ c κs. search needs)
     loop-holds
-    mul-holds
-    array-copy-out-holds
-    holds-requires
-    add-j
-    loop-less
+    (λ c. search needs)
+    (λ c. search needs)
+    (λ c κs. search needs)
+    (λ c. search needs)
+    (λ c. search needs)
     loop-again
     returns)

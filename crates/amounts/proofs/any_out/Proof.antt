@@ -19,17 +19,8 @@ Inv-loop cells assigns a found₀ j₀ found j = (j ≤ a)
 abbrev μ-loop : tie.MeasureT-loop
 μ-loop cells assigns a found₀ j₀ found j = a - j
 
-count-requires : tie.Need-count-requires Inv-loop μ-loop
-count-requires c κs = search needs
-
 loop-holds : tie.Need-loop-holds Inv-loop μ-loop
 loop-holds c = (search needs, sought-none)
-
-mul-worked : tie.Need-mul-worked Inv-loop μ-loop
-mul-worked c = search needs
-
-array-copy-out-worked : tie.Need-array-copy-out-worked Inv-loop μ-loop
-array-copy-out-worked c = search needs
 
 worked-requires : tie.Need-worked-requires Inv-loop μ-loop
 worked-requires c κs = (
@@ -37,15 +28,6 @@ worked-requires c κs = (
       (omega (arith, c .before .before .before .count .ensures .0)),
   c .before .before .before .before .before .pre .1,
 )
-
-out-of-range-requires : tie.Need-out-of-range-requires Inv-loop μ-loop
-out-of-range-requires c κs = search needs
-
-add-j : tie.Need-add-j Inv-loop μ-loop
-add-j c = search needs
-
-loop-less : tie.Need-loop-less Inv-loop μ-loop
-loop-less c = search needs
 
 loop-again : tie.Need-loop-again Inv-loop μ-loop
 loop-again c =
@@ -67,13 +49,13 @@ any-out-spec =
     (tie.spec
     Inv-loop
     μ-loop
-    count-requires
+    (λ c κs. search needs)
     loop-holds
-    mul-worked
-    array-copy-out-worked
+    (λ c. search needs)
+    (λ c. search needs)
     worked-requires
-    out-of-range-requires
-    add-j
-    loop-less
+    (λ c κs. search needs)
+    (λ c. search needs)
+    (λ c. search needs)
     loop-again
     returns)

@@ -8,21 +8,6 @@ use Rattle.amounts.specs.Amounts.{holds}
 use Rattle.amounts.proofs.holds.Statement.{statement}
 use Rattle.amounts.proofs.holds.Tie as tie
 
-count-requires : tie.Need-count-requires
-count-requires c κs = search needs
-
-amount-requires : tie.Need-amount-requires
-amount-requires c κs = search needs
-
-count-requires-2 : tie.Need-count-requires-2
-count-requires-2 c κs = search needs
-
-amount-requires-2 : tie.Need-amount-requires-2
-amount-requires-2 c κs = search needs
-
-compares-requires : tie.Need-compares-requires
-compares-requires c κs = search needs
-
 returns : tie.Need-returns
 unfolding holds
 returns c =
@@ -39,9 +24,6 @@ returns c =
       c .before .amount2 .ensures,
       c .before .before .count2 .ensures .0,
     )
-
-compares-requires-2 : tie.Need-compares-requires-2
-compares-requires-2 c κs = search needs
 
 returns-2 : tie.Need-returns-2
 unfolding holds
@@ -62,11 +44,11 @@ pub holds-spec : {M : Type 1} → statement M
 holds-spec =
     tie.close
     (tie.spec
-    count-requires
-    amount-requires
-    count-requires-2
-    amount-requires-2
-    compares-requires
+    (λ c κs. search needs)
+    (λ c κs. search needs)
+    (λ c κs. search needs)
+    (λ c κs. search needs)
+    (λ c κs. search needs)
     returns
-    compares-requires-2
+    (λ c κs. search needs)
     returns-2)

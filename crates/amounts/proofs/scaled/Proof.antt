@@ -24,14 +24,8 @@ module _ (c : tie.Start) where
   q-is : toZ w64 (c .args .q) ≡ pos (c .args .q)
   q-is = toZ-pos w64 (omega arith)
 
-cast-result : tie.Need-cast-result
-cast-result c = search needs
-
 mul-result : tie.Need-mul-result
 mul-result c = rw (toZ-ofZ (c .fits .v), p-is c) (product c)
-
-cast-result-2 : tie.Need-cast-result-2
-cast-result-2 c = search needs
 
 div-result : tie.Need-div-result
 unfolding scaled
@@ -42,4 +36,4 @@ unfolding scaled
 returns c = rw (toZ-ofZ (c .fits .v), p-is c, q-is c, toZ-ofZ (product c)) (toZ-ofZ (quotient c))
 
 pub scaled-spec : {M : Type 1} → statement M
-scaled-spec = tie.close (tie.spec cast-result mul-result cast-result-2 div-result returns)
+scaled-spec = tie.close (tie.spec (λ c. search needs) mul-result (λ c. search needs) div-result returns)

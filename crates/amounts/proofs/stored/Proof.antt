@@ -16,21 +16,9 @@ Inv-loop before assigns a cells₀ j₀ cells j = (j ≤ a) × (cells ≡ stored
 abbrev μ-loop : tie.MeasureT-loop
 μ-loop before assigns a cells₀ j₀ cells j = a - j
 
-count-requires : tie.Need-count-requires Inv-loop μ-loop
-count-requires c κs = search needs
-
 loop-holds : tie.Need-loop-holds Inv-loop μ-loop
 unfolding storedBy
 loop-holds c = (search needs, refl)
-
-mul-x : tie.Need-mul-x Inv-loop μ-loop
-mul-x c = search needs
-
-array-copy-out-x : tie.Need-array-copy-out-x Inv-loop μ-loop
-array-copy-out-x c = search needs
-
-count-requires-2 : tie.Need-count-requires-2 Inv-loop μ-loop
-count-requires-2 c κs = search needs
 
 worked-requires : tie.Need-worked-requires Inv-loop μ-loop
 worked-requires c κs = (
@@ -50,12 +38,6 @@ mul-cells c = omega (arith, target c)
 
 array-set-from-cells : tie.Need-array-set-from-cells Inv-loop μ-loop
 array-set-from-cells c = target c
-
-add-j : tie.Need-add-j Inv-loop μ-loop
-add-j c = search needs
-
-loop-less : tie.Need-loop-less Inv-loop μ-loop
-loop-less c = search needs
 
 loop-again : tie.Need-loop-again Inv-loop μ-loop
 unfolding storedBy
@@ -84,15 +66,15 @@ stored-spec =
     (tie.spec
     Inv-loop
     μ-loop
-    count-requires
+    (λ c κs. search needs)
     loop-holds
-    mul-x
-    array-copy-out-x
-    count-requires-2
+    (λ c. search needs)
+    (λ c. search needs)
+    (λ c κs. search needs)
     worked-requires
     mul-cells
     array-set-from-cells
-    add-j
-    loop-less
+    (λ c. search needs)
+    (λ c. search needs)
     loop-again
     returns)

@@ -10,18 +10,6 @@ use Rattle.amounts.specs.Amounts.{at, operated, valueOf}
 use Rattle.amounts.proofs.worked.Statement.{statement}
 use Rattle.amounts.proofs.worked.Tie as tie
 
-count-requires : tie.Need-count-requires
-count-requires c κs = search needs
-
-amount-requires : tie.Need-amount-requires
-amount-requires c κs = search needs
-
-count-requires-2 : tie.Need-count-requires-2
-count-requires-2 c κs = search needs
-
-amount-requires-2 : tie.Need-amount-requires-2
-amount-requires-2 c κs = search needs
-
 -- the two cells and the constant, read
 left : (c : tie.After-struct-told) → let a = c .before .before .before .before .before .args in
     toZ w64 (ofZ w64 (c .before .before .before .amount .result)) ≡ at (a .cells) (a .x .a)
@@ -122,10 +110,10 @@ pub worked-spec : {M : Type 1} → statement M
 worked-spec =
     tie.close
     (tie.spec
-    count-requires
-    amount-requires
-    count-requires-2
-    amount-requires-2
+    (λ c κs. search needs)
+    (λ c κs. search needs)
+    (λ c κs. search needs)
+    (λ c κs. search needs)
     sum-requires
     sum-requires-2
     less-requires

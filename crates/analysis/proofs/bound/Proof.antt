@@ -10,9 +10,6 @@ use borrow.Author.Needs.{needs}
 use Rattle.analysis.proofs.bound.Statement.{statement}
 use Rattle.analysis.proofs.bound.Tie as tie
 
-check-requires : tie.Need-check-requires
-check-requires c κs = search needs
-
 returns : tie.Need-returns
 returns c =
     let t = c .before .before .before .args .t in
@@ -41,4 +38,4 @@ returns-2 c =
     }
 
 pub bound-spec : {M : Type 1} → statement M
-bound-spec = tie.close (tie.spec check-requires returns masks-requires bound-requires returns-2)
+bound-spec = tie.close (tie.spec (λ c κs. search needs) returns masks-requires bound-requires returns-2)

@@ -62,9 +62,6 @@ Inv-loop n rules watch₀ reads₀ writes₀ precedes₀ i₀ watch reads writes
 abbrev μ-loop : tie.MeasureT-loop
 μ-loop n rules watch₀ reads₀ writes₀ precedes₀ i₀ watch reads writes precedes i = n - i
 
-count-requires : tie.Need-count-requires Inv-loop μ-loop
-count-requires c κs = search needs
-
 loop-holds : tie.Need-loop-holds Inv-loop μ-loop
 loop-holds c =
     let s = c .before .before in (
@@ -77,18 +74,6 @@ loop-holds c =
       below-none _,
     )
 
-mul-r : tie.Need-mul-r Inv-loop μ-loop
-mul-r c = search needs
-
-array-copy-out-r : tie.Need-array-copy-out-r Inv-loop μ-loop
-array-copy-out-r c = search needs
-
-mul-watch : tie.Need-mul-watch Inv-loop μ-loop
-mul-watch c = search needs
-
-array-write-watch : tie.Need-array-write-watch Inv-loop μ-loop
-array-write-watch c = search needs
-
 -- the rule of a turn has its counts in bounds
 counts : (c : tie.After-r Inv-loop μ-loop) → Counted (getD (c .before .before .before .before .before .args .t .rules) (c .before .before .loop .i) blankRule)
 counts c =
@@ -100,35 +85,8 @@ counts c =
 reads-requires : tie.Need-reads-requires Inv-loop μ-loop
 reads-requires c κs = (counts c .tests, counts c .assigns)
 
-mul-reads : tie.Need-mul-reads Inv-loop μ-loop
-mul-reads c = search needs
-
-array-write-reads : tie.Need-array-write-reads Inv-loop μ-loop
-array-write-reads c = search needs
-
 writes-requires : tie.Need-writes-requires Inv-loop μ-loop
 writes-requires c κs = counts (c .before) .assigns
-
-mul-writes : tie.Need-mul-writes Inv-loop μ-loop
-mul-writes c = search needs
-
-array-write-writes : tie.Need-array-write-writes Inv-loop μ-loop
-array-write-writes c = search needs
-
-bits-requires : tie.Need-bits-requires Inv-loop μ-loop
-bits-requires c κs = search needs
-
-mul-precedes : tie.Need-mul-precedes Inv-loop μ-loop
-mul-precedes c = search needs
-
-array-write-precedes : tie.Need-array-write-precedes Inv-loop μ-loop
-array-write-precedes c = search needs
-
-add-i : tie.Need-add-i Inv-loop μ-loop
-add-i c = search needs
-
-loop-less : tie.Need-loop-less Inv-loop μ-loop
-loop-less c = search needs
 
 loop-again : tie.Need-loop-again Inv-loop μ-loop
 loop-again c =
@@ -164,22 +122,22 @@ masks-spec =
     (tie.spec
     Inv-loop
     μ-loop
-    count-requires
+    (λ c κs. search needs)
     loop-holds
-    mul-r
-    array-copy-out-r
-    mul-watch
-    array-write-watch
+    (λ c. search needs)
+    (λ c. search needs)
+    (λ c. search needs)
+    (λ c. search needs)
     reads-requires
-    mul-reads
-    array-write-reads
+    (λ c. search needs)
+    (λ c. search needs)
     writes-requires
-    mul-writes
-    array-write-writes
-    bits-requires
-    mul-precedes
-    array-write-precedes
-    add-i
-    loop-less
+    (λ c. search needs)
+    (λ c. search needs)
+    (λ c κs. search needs)
+    (λ c. search needs)
+    (λ c. search needs)
+    (λ c. search needs)
+    (λ c. search needs)
     loop-again
     returns)

@@ -10,12 +10,6 @@ use borrow.Author.Needs.{needs}
 use Rattle.analysis.proofs.report.Statement.{statement}
 use Rattle.analysis.proofs.report.Tie as tie
 
-check-requires : tie.Need-check-requires
-check-requires c κs = search needs
-
-no-report-requires : tie.Need-no-report-requires
-no-report-requires c κs = search needs
-
 returns : tie.Need-returns
 returns c =
     let t = c .before .before .before .before .args .t in
@@ -45,4 +39,4 @@ returns-2 c =
 pub report-spec : {M : Type 1} → statement M
 report-spec =
     tie.close
-    (tie.spec check-requires no-report-requires returns masks-requires report-requires returns-2)
+    (tie.spec (λ c κs. search needs) (λ c κs. search needs) returns masks-requires report-requires returns-2)

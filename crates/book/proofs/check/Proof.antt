@@ -11,9 +11,6 @@ use borrow.Author.Needs.{needs}
 use Rattle.book.proofs.check.Statement.{statement}
 use Rattle.book.proofs.check.Tie as tie
 
-sizes-bad-requires : tie.Need-sizes-bad-requires
-sizes-bad-requires c κs = search needs
-
 returns : tie.Need-returns
 unfolding checkOf
 returns c = rw (← c .before .sizes-bad .ensures, c .if1 .taken)
@@ -27,9 +24,6 @@ sizes c = sized (c .before .before .args .t .n) (c .before .before .args .t .k) 
 
 first-bad-requires : tie.Need-first-bad-requires
 first-bad-requires c κs = (sizes c .rules, sizes c .cells)
-
-count-requires : tie.Need-count-requires
-count-requires c κs = search needs
 
 -- where a rule has a number, it is one of the table's
 here : (c : tie.Then2) → c .before .before .first-bad .result < c .before .before .before .before .before .args .t .n
@@ -62,9 +56,6 @@ rules-good : (c : tie.Else2) → let t = c .before .before .before .before .befo
 rules-good c =
     let t = c .before .before .before .before .before .args .t in
     le-ltb (firstBad t) (t .n) (omega (arith, c .if2 .left, c .before .count .ensures .0, c .before .before .first-bad .ensures))
-
-first-slot-requires : tie.Need-first-slot-requires
-first-slot-requires c κs = search needs
 
 cast-t15 : tie.Need-cast-t15
 cast-t15 c = omega (arith, c .if3 .taken)
@@ -102,16 +93,16 @@ pub check-spec : {M : Type 1} → statement M
 check-spec =
     tie.close
     (tie.spec
-    sizes-bad-requires
+    (λ c κs. search needs)
     returns
     first-bad-requires
-    count-requires
+    (λ c κs. search needs)
     mul-rule-number
     array-copy-out-rule-number
     rule-number-requires
     cast-t14
     returns-2
-    first-slot-requires
+    (λ c κs. search needs)
     cast-t15
     returns-3
     cyclic-requires

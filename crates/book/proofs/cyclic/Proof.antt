@@ -10,21 +10,6 @@ use borrow.Author.Needs.{needs}
 use Rattle.book.proofs.cyclic.Statement.{statement}
 use Rattle.book.proofs.cyclic.Tie as tie
 
-goes-before-requires : tie.Need-goes-before-requires
-goes-before-requires c κs = search needs
-
-loops-requires : tie.Need-loops-requires
-loops-requires c κs = search needs
-
-count-requires : tie.Need-count-requires
-count-requires c κs = search needs
-
-below-requires : tie.Need-below-requires
-below-requires c κs = search needs
-
-meets-requires : tie.Need-meets-requires
-meets-requires c κs = search needs
-
 returns : tie.Need-returns
 unfolding cyclic meet
 returns c =
@@ -42,9 +27,9 @@ pub cyclic-spec : {M : Type 1} → statement M
 cyclic-spec =
     tie.close
     (tie.spec
-    goes-before-requires
-    loops-requires
-    count-requires
-    below-requires
-    meets-requires
+    (λ c κs. search needs)
+    (λ c κs. search needs)
+    (λ c κs. search needs)
+    (λ c κs. search needs)
+    (λ c κs. search needs)
     returns)

@@ -17,21 +17,9 @@ Inv-loop t n rules i₀ i = (i ≤ n) × (n ≡ t .n) × (n ≤ 32) × Passed (�
 abbrev μ-loop : tie.MeasureT-loop
 μ-loop t n rules i₀ i = n - i
 
-count-requires : tie.Need-count-requires Inv-loop μ-loop
-count-requires c κs = search needs
-
 loop-holds : tie.Need-loop-holds Inv-loop μ-loop
 loop-holds c =
     (search needs, c .before .count .ensures .0, omega (arith, c .before .count .ensures .0, c .before .before .pre), passed-none)
-
-mul-rule-number : tie.Need-mul-rule-number Inv-loop μ-loop
-mul-rule-number c = search needs
-
-array-copy-out-rule-number : tie.Need-array-copy-out-rule-number Inv-loop μ-loop
-array-copy-out-rule-number c = search needs
-
-rule-number-requires : tie.Need-rule-number-requires Inv-loop μ-loop
-rule-number-requires c κs = search needs
 
 returns : tie.Need-returns Inv-loop μ-loop
 unfolding firstBad numberAt
@@ -41,12 +29,6 @@ returns c =
     sym (c .before .rule-number .ensures) in
     passed-here (c .before .before .before .before .loop .inv .3) (omega arith)
     (ap notZero e ∙ ap not (ne-eqb (c .before .rule-number .result) 0 (c .if1 .taken)))
-
-add-i : tie.Need-add-i Inv-loop μ-loop
-add-i c = search needs
-
-loop-less : tie.Need-loop-less Inv-loop μ-loop
-loop-less c = search needs
 
 loop-again : tie.Need-loop-again Inv-loop μ-loop
 unfolding numberAt
@@ -71,13 +53,13 @@ first-bad-spec =
     (tie.spec
     Inv-loop
     μ-loop
-    count-requires
+    (λ c κs. search needs)
     loop-holds
-    mul-rule-number
-    array-copy-out-rule-number
-    rule-number-requires
+    (λ c. search needs)
+    (λ c. search needs)
+    (λ c κs. search needs)
     returns
-    add-i
-    loop-less
+    (λ c. search needs)
+    (λ c. search needs)
     loop-again
     returns-2)

@@ -17,20 +17,8 @@ Inv-loop n rules i₀ i = (i ≤ 32) × Passed (λ x. leb n x && ruleSlotBad (ge
 abbrev μ-loop : tie.MeasureT-loop
 μ-loop n rules i₀ i = 32 - i
 
-count-requires : tie.Need-count-requires Inv-loop μ-loop
-count-requires c κs = search needs
-
 loop-holds : tie.Need-loop-holds Inv-loop μ-loop
 loop-holds c = (search needs, passed-none)
-
-mul-rule-slot-bad : tie.Need-mul-rule-slot-bad Inv-loop μ-loop
-mul-rule-slot-bad c = search needs
-
-array-copy-out-rule-slot-bad : tie.Need-array-copy-out-rule-slot-bad Inv-loop μ-loop
-array-copy-out-rule-slot-bad c = search needs
-
-rule-slot-bad-requires : tie.Need-rule-slot-bad-requires Inv-loop μ-loop
-rule-slot-bad-requires c κs = search needs
 
 returns : tie.Need-returns Inv-loop μ-loop
 unfolding firstSlot
@@ -38,12 +26,6 @@ returns c =
     let d = c .before .before .before .before in
     rw (← d .before .before .count .ensures .0)
     (passed-here (d .loop .inv .1) (c .before .before .before .loop-test .taken) (rw (← c .before .rule-slot-bad .ensures) (c .if1 .taken)))
-
-add-i : tie.Need-add-i Inv-loop μ-loop
-add-i c = search needs
-
-loop-less : tie.Need-loop-less Inv-loop μ-loop
-loop-less c = search needs
 
 loop-again : tie.Need-loop-again Inv-loop μ-loop
 loop-again c =
@@ -61,13 +43,13 @@ first-slot-spec =
     (tie.spec
     Inv-loop
     μ-loop
-    count-requires
+    (λ c κs. search needs)
     loop-holds
-    mul-rule-slot-bad
-    array-copy-out-rule-slot-bad
-    rule-slot-bad-requires
+    (λ c. search needs)
+    (λ c. search needs)
+    (λ c κs. search needs)
     returns
-    add-i
-    loop-less
+    (λ c. search needs)
+    (λ c. search needs)
     loop-again
     returns-2)

@@ -7,12 +7,6 @@ use Rattle.editor.specs.RowsLaws.{plain, orderly}
 use Rattle.editor.proofs.analysed.Statement.{statement}
 use Rattle.editor.proofs.analysed.Tie as tie
 
-check-requires : tie.Need-check-requires
-check-requires c κs = search needs
-
-no-report-requires : tie.Need-no-report-requires
-no-report-requires c κs = search needs
-
 returns : tie.Need-returns
 returns c =
     let a = c .before .before .before .check .ensures .is in
@@ -34,4 +28,4 @@ returns-2 c =
     record { refused = λ ne. absurd (ne (sym a ∙ c .before .if1 .left)); done = λ e. c .report .ensures }
 
 pub analysed-spec : {M : Type 1} → statement M
-analysed-spec = tie.close (tie.spec check-requires no-report-requires returns report-requires returns-2)
+analysed-spec = tie.close (tie.spec (λ c κs. search needs) (λ c κs. search needs) returns report-requires returns-2)

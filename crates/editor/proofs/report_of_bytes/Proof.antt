@@ -1,15 +1,14 @@
 -- The arrays hold the records passed, one after another.
 use mathlib.Core.Path.{_≡_, sym, ap, _∙_, subst}
-use Prim.Native.Nat.{ℕ, _<_, _≤_, _-_, _/_}
+use Prim.Native.Nat.{_<_, _≤_, _-_, _/_}
 use native.Mathlib.Omega.{arith}
 use lib.ListN.{length}
 use borrow.Author.Needs.{needs}
 use Rattle.pairs.specs.declared.Masks.{Masks}
-use Rattle.judging.specs.declared.Report.{Report}
 use Rattle.editor.specs.Rows.{Padded, RowsSay}
-use Rattle.editor.specs.Copying.{withRow, copyTo}
+use Rattle.editor.specs.Copying.{copyTo}
 use Rattle.editor.specs.CopyingLaws.{copy-none, copy-padded}
-use Rattle.editor.specs.Bytes.{recordIn, rowsIn, more-bytes, bytes-say}
+use Rattle.editor.specs.Bytes.{rowsIn, more-bytes, bytes-say}
 use Rattle.editor.proofs.report_of_bytes.Statement.{statement}
 use Rattle.editor.proofs.report_of_bytes.Tie as tie
 
@@ -19,23 +18,8 @@ Inv-loop s n m₀ i₀ m i = (i ≤ length s / 16) × (m ≡ copyTo (rowsIn s) i
 abbrev μ-loop : tie.MeasureT-loop
 μ-loop s n m₀ i₀ m i = length s / 16 - i
 
-none-requires : tie.Need-none-requires Inv-loop μ-loop
-none-requires c κs = search needs
-
 loop-holds : tie.Need-loop-holds Inv-loop μ-loop
 loop-holds c = (search needs, c .none .ensures ∙ copy-none _)
-
-record-at-requires : tie.Need-record-at-requires Inv-loop μ-loop
-record-at-requires c κs = omega arith
-
-with-row-requires : tie.Need-with-row-requires Inv-loop μ-loop
-with-row-requires c κs = search needs
-
-add-i : tie.Need-add-i Inv-loop μ-loop
-add-i c = search needs
-
-loop-less : tie.Need-loop-less Inv-loop μ-loop
-loop-less c = search needs
 
 loop-again : tie.Need-loop-again Inv-loop μ-loop
 loop-again c =
@@ -61,12 +45,12 @@ report-of-bytes-spec =
     (tie.spec
     Inv-loop
     μ-loop
-    none-requires
+    (λ c κs. search needs)
     loop-holds
-    record-at-requires
-    with-row-requires
-    add-i
-    loop-less
+    (λ c κs. omega arith)
+    (λ c κs. search needs)
+    (λ c. search needs)
+    (λ c. search needs)
     loop-again
     analysed-requires
     returns)

@@ -5,33 +5,6 @@ use Rattle.editor.specs.Copying.{withRow}
 use Rattle.editor.proofs.with_row.Statement.{statement}
 use Rattle.editor.proofs.with_row.Tie as tie
 
-add-o : tie.Need-add-o
-add-o c = search needs
-
-mul-o : tie.Need-mul-o
-mul-o c = search needs
-
-element-write-o : tie.Need-element-write-o
-element-write-o c = search needs
-
-mul-o-2 : tie.Need-mul-o-2
-mul-o-2 c = search needs
-
-element-write-o-2 : tie.Need-element-write-o-2
-element-write-o-2 c = search needs
-
-mul-o-3 : tie.Need-mul-o-3
-mul-o-3 c = search needs
-
-element-write-o-3 : tie.Need-element-write-o-3
-element-write-o-3 c = search needs
-
-mul-o-4 : tie.Need-mul-o-4
-mul-o-4 c = search needs
-
-element-write-o-4 : tie.Need-element-write-o-4
-element-write-o-4 c = search needs
-
 returns : tie.Need-returns
 unfolding withRow
 returns c = rw (lt-ltb _ _ (c .if1 .taken))
@@ -44,14 +17,14 @@ pub with-row-spec : {M : Type 1} → statement M
 with-row-spec =
     tie.close
     (tie.spec
-    add-o
-    mul-o
-    element-write-o
-    mul-o-2
-    element-write-o-2
-    mul-o-3
-    element-write-o-3
-    mul-o-4
-    element-write-o-4
+    (λ c. search needs)
+    (λ c. search needs)
+    (λ c. search needs)
+    (λ c. search needs)
+    (λ c. search needs)
+    (λ c. search needs)
+    (λ c. search needs)
+    (λ c. search needs)
+    (λ c. search needs)
     returns
     returns-2)

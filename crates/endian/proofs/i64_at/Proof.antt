@@ -6,14 +6,8 @@ use Rattle.endian.specs.Little.{signed}
 use Rattle.endian.proofs.i64_at.Statement.{statement}
 use Rattle.endian.proofs.i64_at.Tie as tie
 
-u64-at-requires : tie.Need-u64-at-requires
-u64-at-requires c κs = search needs
-
-signed-of-requires : tie.Need-signed-of-requires
-signed-of-requires c κs = search needs
-
 returns : tie.Need-returns
 returns c = toZ-ofZ (search needs) ∙ (c .signed-of .ensures ∙ ap signed (c .before .u64-at .ensures))
 
 pub i64-at-spec : {M : Type 1} → statement M
-i64-at-spec = tie.close (tie.spec u64-at-requires signed-of-requires returns)
+i64-at-spec = tie.close (tie.spec (λ c κs. search needs) (λ c κs. search needs) returns)

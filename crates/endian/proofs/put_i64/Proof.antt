@@ -8,15 +8,6 @@ use Rattle.endian.specs.Bytes.{unsigned, u64Bytes, i64Bytes}
 use Rattle.endian.proofs.put_i64.Statement.{statement}
 use Rattle.endian.proofs.put_i64.Tie as tie
 
-unsigned-of-requires : tie.Need-unsigned-of-requires
-unsigned-of-requires c κs = search needs
-
-put-u64-requires : tie.Need-put-u64-requires
-put-u64-requires c κs = search needs
-
-same-length : tie.Need-same-length
-same-length c = search needs
-
 returns : tie.Need-returns
 unfolding i64Bytes
 returns c =
@@ -28,4 +19,4 @@ returns c =
     (d .before .unsigned-of .ensures ∙ ap unsigned (toZ-ofZ (h .fits .z)))
 
 pub put-i64-spec : {M : Type 1} → statement M
-put-i64-spec = tie.close (tie.spec unsigned-of-requires put-u64-requires same-length returns)
+put-i64-spec = tie.close (tie.spec (λ c κs. search needs) (λ c κs. search needs) (λ c. search needs) returns)

@@ -7,24 +7,6 @@ use Rattle.endian.specs.Bytes.{u32Bytes, u64Bytes, length-u32}
 use Rattle.endian.proofs.put_u64.Statement.{statement}
 use Rattle.endian.proofs.put_u64.Tie as tie
 
-cast-put-u32 : tie.Need-cast-put-u32
-cast-put-u32 c = search needs
-
-put-u32-requires : tie.Need-put-u32-requires
-put-u32-requires c κs = search needs
-
-add-put-u32 : tie.Need-add-put-u32
-add-put-u32 c = search needs
-
-cast-put-u32-2 : tie.Need-cast-put-u32-2
-cast-put-u32-2 c = search needs
-
-put-u32-requires-2 : tie.Need-put-u32-requires-2
-put-u32-requires-2 c κs = search needs
-
-same-length : tie.Need-same-length
-same-length c = search needs
-
 returns : tie.Need-returns
 unfolding u64Bytes
 returns c =
@@ -40,10 +22,10 @@ pub put-u64-spec : {M : Type 1} → statement M
 put-u64-spec =
     tie.close
     (tie.spec
-    cast-put-u32
-    put-u32-requires
-    add-put-u32
-    cast-put-u32-2
-    put-u32-requires-2
-    same-length
+    (λ c. search needs)
+    (λ c κs. search needs)
+    (λ c. search needs)
+    (λ c. search needs)
+    (λ c κs. search needs)
+    (λ c. search needs)
     returns)

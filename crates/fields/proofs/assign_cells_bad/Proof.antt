@@ -17,21 +17,6 @@ abbrev μ-loop : tie.MeasureT-loop
 loop-holds : tie.Need-loop-holds Inv-loop μ-loop
 loop-holds c = (search needs, sought-none)
 
-mul-assign-cell-bad : tie.Need-mul-assign-cell-bad Inv-loop μ-loop
-mul-assign-cell-bad c = search needs
-
-array-copy-out-assign-cell-bad : tie.Need-array-copy-out-assign-cell-bad Inv-loop μ-loop
-array-copy-out-assign-cell-bad c = search needs
-
-assign-cell-bad-requires : tie.Need-assign-cell-bad-requires Inv-loop μ-loop
-assign-cell-bad-requires c κs = search needs
-
-add-j : tie.Need-add-j Inv-loop μ-loop
-add-j c = search needs
-
-loop-less : tie.Need-loop-less Inv-loop μ-loop
-loop-less c = search needs
-
 loop-again : tie.Need-loop-again Inv-loop μ-loop
 loop-again c =
     (search needs, sought-more (c .before .before .before .loop .inv .1) (c .assign-cell-bad .ensures))
@@ -47,10 +32,10 @@ assign-cells-bad-spec =
     Inv-loop
     μ-loop
     loop-holds
-    mul-assign-cell-bad
-    array-copy-out-assign-cell-bad
-    assign-cell-bad-requires
-    add-j
-    loop-less
+    (λ c. search needs)
+    (λ c. search needs)
+    (λ c κs. search needs)
+    (λ c. search needs)
+    (λ c. search needs)
     loop-again
     returns)

@@ -19,24 +19,6 @@ abbrev μ-loop : tie.MeasureT-loop
 loop-holds : tie.Need-loop-holds Inv-loop μ-loop
 loop-holds c = (search needs, sought-none)
 
-mul-x : tie.Need-mul-x Inv-loop μ-loop
-mul-x c = search needs
-
-array-copy-out-x : tie.Need-array-copy-out-x Inv-loop μ-loop
-array-copy-out-x c = search needs
-
-assign-form-bad-requires : tie.Need-assign-form-bad-requires Inv-loop μ-loop
-assign-form-bad-requires c κs = search needs
-
-assign-slot-bad-requires : tie.Need-assign-slot-bad-requires Inv-loop μ-loop
-assign-slot-bad-requires c κs = search needs
-
-add-j : tie.Need-add-j Inv-loop μ-loop
-add-j c = search needs
-
-loop-less : tie.Need-loop-less Inv-loop μ-loop
-loop-less c = search needs
-
 loop-again : tie.Need-loop-again Inv-loop μ-loop
 loop-again c =
     (search needs, sought-more (c .before .before .before .before .loop .inv .1) (ap₂ (slotted (ltb (c .before .before .before .before .loop .j) (c .before .before .before .before .before .args .a))) (c .before .assign-form-bad .ensures) (c .assign-slot-bad .ensures)))
@@ -52,11 +34,11 @@ assign-forms-bad-spec =
     Inv-loop
     μ-loop
     loop-holds
-    mul-x
-    array-copy-out-x
-    assign-form-bad-requires
-    assign-slot-bad-requires
-    add-j
-    loop-less
+    (λ c. search needs)
+    (λ c. search needs)
+    (λ c κs. search needs)
+    (λ c κs. search needs)
+    (λ c. search needs)
+    (λ c. search needs)
     loop-again
     returns)

@@ -19,15 +19,6 @@ abbrev μ-loop : tie.MeasureT-loop
 loop-holds : tie.Need-loop-holds Inv-loop μ-loop
 loop-holds c = (search needs, sought-none)
 
-array-read-bad : tie.Need-array-read-bad Inv-loop μ-loop
-array-read-bad c = search needs
-
-add-j : tie.Need-add-j Inv-loop μ-loop
-add-j c = search needs
-
-loop-less : tie.Need-loop-less Inv-loop μ-loop
-loop-less c = search needs
-
 loop-again : tie.Need-loop-again Inv-loop μ-loop
 loop-again c =
     (search needs, sought-more (c .before .loop .inv .1) refl)
@@ -39,4 +30,4 @@ returns c =
 pub name-slots-bad-spec : {M : Type 1} → statement M
 name-slots-bad-spec =
     tie.close
-    (tie.spec Inv-loop μ-loop loop-holds array-read-bad add-j loop-less loop-again returns)
+    (tie.spec Inv-loop μ-loop loop-holds (λ c. search needs) (λ c. search needs) (λ c. search needs) loop-again returns)

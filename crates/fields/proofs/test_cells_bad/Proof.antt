@@ -17,21 +17,6 @@ abbrev μ-loop : tie.MeasureT-loop
 loop-holds : tie.Need-loop-holds Inv-loop μ-loop
 loop-holds c = (search needs, sought-none)
 
-mul-test-cell-bad : tie.Need-mul-test-cell-bad Inv-loop μ-loop
-mul-test-cell-bad c = search needs
-
-array-copy-out-test-cell-bad : tie.Need-array-copy-out-test-cell-bad Inv-loop μ-loop
-array-copy-out-test-cell-bad c = search needs
-
-test-cell-bad-requires : tie.Need-test-cell-bad-requires Inv-loop μ-loop
-test-cell-bad-requires c κs = search needs
-
-add-j : tie.Need-add-j Inv-loop μ-loop
-add-j c = search needs
-
-loop-less : tie.Need-loop-less Inv-loop μ-loop
-loop-less c = search needs
-
 loop-again : tie.Need-loop-again Inv-loop μ-loop
 loop-again c =
     (search needs, sought-more (c .before .before .before .loop .inv .1) (c .test-cell-bad .ensures))
@@ -47,10 +32,10 @@ test-cells-bad-spec =
     Inv-loop
     μ-loop
     loop-holds
-    mul-test-cell-bad
-    array-copy-out-test-cell-bad
-    test-cell-bad-requires
-    add-j
-    loop-less
+    (λ c. search needs)
+    (λ c. search needs)
+    (λ c κs. search needs)
+    (λ c. search needs)
+    (λ c. search needs)
     loop-again
     returns)

@@ -19,24 +19,6 @@ abbrev μ-loop : tie.MeasureT-loop
 loop-holds : tie.Need-loop-holds Inv-loop μ-loop
 loop-holds c = (search needs, sought-none)
 
-mul-x : tie.Need-mul-x Inv-loop μ-loop
-mul-x c = search needs
-
-array-copy-out-x : tie.Need-array-copy-out-x Inv-loop μ-loop
-array-copy-out-x c = search needs
-
-test-form-bad-requires : tie.Need-test-form-bad-requires Inv-loop μ-loop
-test-form-bad-requires c κs = search needs
-
-test-slot-bad-requires : tie.Need-test-slot-bad-requires Inv-loop μ-loop
-test-slot-bad-requires c κs = search needs
-
-add-j : tie.Need-add-j Inv-loop μ-loop
-add-j c = search needs
-
-loop-less : tie.Need-loop-less Inv-loop μ-loop
-loop-less c = search needs
-
 loop-again : tie.Need-loop-again Inv-loop μ-loop
 loop-again c =
     (search needs, sought-more (c .before .before .before .before .loop .inv .1) (ap₂ (slotted (ltb (c .before .before .before .before .loop .j) (c .before .before .before .before .before .args .t))) (c .before .test-form-bad .ensures) (c .test-slot-bad .ensures)))
@@ -52,11 +34,11 @@ test-forms-bad-spec =
     Inv-loop
     μ-loop
     loop-holds
-    mul-x
-    array-copy-out-x
-    test-form-bad-requires
-    test-slot-bad-requires
-    add-j
-    loop-less
+    (λ c. search needs)
+    (λ c. search needs)
+    (λ c κs. search needs)
+    (λ c κs. search needs)
+    (λ c. search needs)
+    (λ c. search needs)
     loop-again
     returns)

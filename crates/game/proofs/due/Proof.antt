@@ -31,9 +31,6 @@ returns c =
       more = λ l. absurd (omega (arith, l));
     }
 
-check-requires : tie.Need-check-requires
-check-requires c κs = search needs
-
 returns-2 : tie.Need-returns-2
 returns-2 c =
     let a = c .before .before .before .before .args in
@@ -43,9 +40,6 @@ returns-2 c =
       some-left = λ l. absurd (omega (arith, l));
       more = λ l. absurd (omega (arith, l));
     }
-
-run-requires : tie.Need-run-requires
-run-requires c κs = search needs
 
 returns-3 : tie.Need-returns-3
 returns-3 c =
@@ -66,12 +60,6 @@ sound-here c =
 
 goes-before-requires : tie.Need-goes-before-requires
 goes-before-requires c κs = parts _ (sound-here c) .sizes .rules
-
-gather-requires : tie.Need-gather-requires
-gather-requires c κs = search needs
-
-lowest-requires : tie.Need-lowest-requires
-lowest-requires c κs = search needs
 
 lowest-le : (m : ℕ) → lowest m ≤ 32
 unfolding lowest
@@ -133,12 +121,12 @@ due-spec =
     tie.close
     (tie.spec
     returns
-    check-requires
+    (λ c κs. search needs)
     returns-2
-    run-requires
+    (λ c κs. search needs)
     returns-3
     goes-before-requires
-    gather-requires
-    lowest-requires
+    (λ c κs. search needs)
+    (λ c κs. search needs)
     cast-result
     returns-4)

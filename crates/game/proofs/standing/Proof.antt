@@ -6,12 +6,9 @@ use Rattle.steps.specs.Run.{ran}
 use Rattle.game.proofs.standing.Statement.{statement}
 use Rattle.game.proofs.standing.Tie as tie
 
-run-requires : tie.Need-run-requires
-run-requires c κs = search needs
-
 returns : tie.Need-returns
 returns c =
     ap (λ (x : Ran). ran (x .number) (x .place) (c .before .args .s) (c .before .args .steps)) (c .run .ensures)
 
 pub standing-spec : {M : Type 1} → statement M
-standing-spec = tie.close (tie.spec run-requires returns)
+standing-spec = tie.close (tie.spec (λ c κs. search needs) returns)

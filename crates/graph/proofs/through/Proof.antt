@@ -32,35 +32,8 @@ Inv-loop k row q₀ r₀ q r = (r ≤ 32) × (length q₀ ≡ 32) × Upto (New q
 abbrev μ-loop : tie.MeasureT-loop
 μ-loop k row q₀ r₀ q r = 32 - r
 
-mul-row : tie.Need-mul-row Inv-loop μ-loop
-mul-row c = search needs
-
-array-read-row : tie.Need-array-read-row Inv-loop μ-loop
-array-read-row c = search needs
-
 loop-holds : tie.Need-loop-holds Inv-loop μ-loop
 loop-holds c = (search needs, search needs, upto-none _ _)
-
-mul-old : tie.Need-mul-old Inv-loop μ-loop
-mul-old c = search needs
-
-array-read-old : tie.Need-array-read-old Inv-loop μ-loop
-array-read-old c = search needs
-
-has-requires : tie.Need-has-requires Inv-loop μ-loop
-has-requires c κs = search needs
-
-mul-q : tie.Need-mul-q Inv-loop μ-loop
-mul-q c = search needs
-
-array-write-q : tie.Need-array-write-q Inv-loop μ-loop
-array-write-q c = search needs
-
-add-r : tie.Need-add-r Inv-loop μ-loop
-add-r c = search needs
-
-loop-less : tie.Need-loop-less Inv-loop μ-loop
-loop-less c = search needs
 
 loop-again : tie.Need-loop-again Inv-loop μ-loop
 loop-again c =
@@ -96,15 +69,15 @@ through-spec =
     (tie.spec
     Inv-loop
     μ-loop
-    mul-row
-    array-read-row
+    (λ c. search needs)
+    (λ c. search needs)
     loop-holds
-    mul-old
-    array-read-old
-    has-requires
-    mul-q
-    array-write-q
-    add-r
-    loop-less
+    (λ c. search needs)
+    (λ c. search needs)
+    (λ c κs. search needs)
+    (λ c. search needs)
+    (λ c. search needs)
+    (λ c. search needs)
+    (λ c. search needs)
     loop-again
     returns)

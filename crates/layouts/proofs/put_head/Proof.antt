@@ -11,27 +11,6 @@ use Rattle.layouts.specs.Layout.{headBytes}
 use Rattle.layouts.proofs.put_head.Statement.{statement}
 use Rattle.layouts.proofs.put_head.Tie as tie
 
-flag-requires : tie.Need-flag-requires
-flag-requires c κs = search needs
-
-put-4-requires : tie.Need-put-4-requires
-put-4-requires c κs = search needs
-
-put-u32-requires : tie.Need-put-u32-requires
-put-u32-requires c κs = search needs
-
-put-u16-requires : tie.Need-put-u16-requires
-put-u16-requires c κs = search needs
-
-put-4-requires-2 : tie.Need-put-4-requires-2
-put-4-requires-2 c κs = search needs
-
-put-u16-requires-2 : tie.Need-put-u16-requires-2
-put-u16-requires-2 c κs = search needs
-
-same-length : tie.Need-same-length
-same-length c = search needs
-
 returns : tie.Need-returns
 unfolding headBytes
 returns c =
@@ -61,11 +40,11 @@ pub put-head-spec : {M : Type 1} → statement M
 put-head-spec =
     tie.close
     (tie.spec
-    flag-requires
-    put-4-requires
-    put-u32-requires
-    put-u16-requires
-    put-4-requires-2
-    put-u16-requires-2
-    same-length
+    (λ c κs. search needs)
+    (λ c κs. search needs)
+    (λ c κs. search needs)
+    (λ c κs. search needs)
+    (λ c κs. search needs)
+    (λ c κs. search needs)
+    (λ c. search needs)
     returns)

@@ -11,12 +11,6 @@ use Rattle.layouts.specs.LayoutLaws.{length-head, length-report}
 use Rattle.layouts.proofs.store_report.Statement.{statement}
 use Rattle.layouts.proofs.store_report.Tie as tie
 
-put-head-requires : tie.Need-put-head-requires
-put-head-requires c κs = search needs
-
-slice-aggregate-put-bytes : tie.Need-slice-aggregate-put-bytes
-slice-aggregate-put-bytes c = search needs
-
 -- an array of 496
 marks-size : (c : tie.After-marks2) → length (c .before .before .before .before .before .args .r .marks) ≡ 496
 marks-size c = search needs
@@ -41,4 +35,4 @@ returns c =
 
 pub store-report-spec : {M : Type 1} → statement M
 store-report-spec =
-    tie.close (tie.spec put-head-requires slice-aggregate-put-bytes put-bytes-requires returns)
+    tie.close (tie.spec (λ c κs. search needs) (λ c. search needs) put-bytes-requires returns)

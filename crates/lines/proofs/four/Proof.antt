@@ -11,36 +11,6 @@ use borrow.Author.Needs.{needs}
 use Rattle.lines.proofs.four.Statement.{statement}
 use Rattle.lines.proofs.four.Tie as tie
 
-report-requires : tie.Need-report-requires
-report-requires c κs = search needs
-
-count-requires : tie.Need-count-requires
-count-requires c κs = search needs
-
-below-requires : tie.Need-below-requires
-below-requires c κs = search needs
-
-bound-requires : tie.Need-bound-requires
-bound-requires c κs = search needs
-
-empty-requires : tie.Need-empty-requires
-empty-requires c κs = search needs
-
-slice-aggregate-numbered : tie.Need-slice-aggregate-numbered
-slice-aggregate-numbered c = search needs
-
-numbered-requires : tie.Need-numbered-requires
-numbered-requires c κs = search needs
-
-ends-line-requires : tie.Need-ends-line-requires
-ends-line-requires c κs = search needs
-
-pairs-line-requires : tie.Need-pairs-line-requires
-pairs-line-requires c κs = search needs
-
-cleared-line-requires : tie.Need-cleared-line-requires
-cleared-line-requires c κs = search needs
-
 returns : tie.Need-returns
 unfolding fourLines
 returns c =
@@ -68,14 +38,14 @@ pub four-spec : {M : Type 1} → statement M
 four-spec =
     tie.close
     (tie.spec
-    report-requires
-    count-requires
-    below-requires
-    bound-requires
-    empty-requires
-    slice-aggregate-numbered
-    numbered-requires
-    ends-line-requires
-    pairs-line-requires
-    cleared-line-requires
+    (λ c κs. search needs)
+    (λ c κs. search needs)
+    (λ c κs. search needs)
+    (λ c κs. search needs)
+    (λ c κs. search needs)
+    (λ c. search needs)
+    (λ c κs. search needs)
+    (λ c κs. search needs)
+    (λ c κs. search needs)
+    (λ c κs. search needs)
     returns)

@@ -10,17 +10,8 @@ use borrow.Author.Needs.{needs}
 use Rattle.lines.proofs.lines.Statement.{statement}
 use Rattle.lines.proofs.lines.Tie as tie
 
-read-requires : tie.Need-read-requires
-read-requires c κs = search needs
-
 told-requires : tie.Need-told-requires
 told-requires c κs = rw (c .read .ensures) (few-rules _)
-
-copy-requires : tie.Need-copy-requires
-copy-requires c κs = search needs
-
-same-length : tie.Need-same-length
-same-length c = search needs
 
 returns : tie.Need-returns
 returns c =
@@ -37,4 +28,4 @@ returns c =
     }
 
 pub lines-spec : {M : Type 1} → statement M
-lines-spec = tie.close (tie.spec read-requires told-requires copy-requires same-length returns)
+lines-spec = tie.close (tie.spec (λ c κs. search needs) told-requires (λ c κs. search needs) (λ c. search needs) returns)

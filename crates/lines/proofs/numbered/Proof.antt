@@ -7,15 +7,6 @@ use borrow.Author.Needs.{needs}
 use Rattle.lines.proofs.numbered.Statement.{statement}
 use Rattle.lines.proofs.numbered.Tie as tie
 
-word-requires : tie.Need-word-requires
-word-requires c κs = search needs
-
-two-numbers-requires : tie.Need-two-numbers-requires
-two-numbers-requires c κs = search needs
-
-push-requires : tie.Need-push-requires
-push-requires c κs = search needs
-
 returns : tie.Need-returns
 unfolding numbered
 returns c =
@@ -23,4 +14,4 @@ returns c =
     (omega arith)
 
 pub numbered-spec : {M : Type 1} → statement M
-numbered-spec = tie.close (tie.spec word-requires two-numbers-requires push-requires returns)
+numbered-spec = tie.close (tie.spec (λ c κs. search needs) (λ c κs. search needs) (λ c κs. search needs) returns)

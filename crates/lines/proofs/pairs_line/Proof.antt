@@ -8,21 +8,6 @@ use borrow.Author.Needs.{needs}
 use Rattle.lines.proofs.pairs_line.Statement.{statement}
 use Rattle.lines.proofs.pairs_line.Tie as tie
 
-slice-aggregate-word : tie.Need-slice-aggregate-word
-slice-aggregate-word c = search needs
-
-word-requires : tie.Need-word-requires
-word-requires c κs = search needs
-
-wider-requires : tie.Need-wider-requires
-wider-requires c κs = search needs
-
-number-requires : tie.Need-number-requires
-number-requires c κs = search needs
-
-push-requires : tie.Need-push-requires
-push-requires c κs = search needs
-
 returns : tie.Need-returns
 unfolding pairsLine
 returns c =
@@ -30,15 +15,6 @@ returns c =
     added-as (added-on (added-on (b .before .before .word .ensures) (b .number .ensures)) (c .push .ensures))
     (rw (b .before .wider .ensures, eq-eqb _ 0 (c .before .if1 .taken)) refl)
     (omega arith)
-
-two-numbers-requires : tie.Need-two-numbers-requires
-two-numbers-requires c κs = search needs
-
-two-numbers-requires-2 : tie.Need-two-numbers-requires-2
-two-numbers-requires-2 c κs = search needs
-
-push-requires-2 : tie.Need-push-requires-2
-push-requires-2 c κs = search needs
 
 returns-2 : tie.Need-returns-2
 unfolding pairsLine
@@ -56,13 +32,13 @@ pub pairs-line-spec : {M : Type 1} → statement M
 pairs-line-spec =
     tie.close
     (tie.spec
-    slice-aggregate-word
-    word-requires
-    wider-requires
-    number-requires
-    push-requires
+    (λ c. search needs)
+    (λ c κs. search needs)
+    (λ c κs. search needs)
+    (λ c κs. search needs)
+    (λ c κs. search needs)
     returns
-    two-numbers-requires
-    two-numbers-requires-2
-    push-requires-2
+    (λ c κs. search needs)
+    (λ c κs. search needs)
+    (λ c κs. search needs)
     returns-2)

@@ -4,15 +4,6 @@ use borrow.Author.Needs.{needs}
 use Rattle.lines.proofs.told.Statement.{statement}
 use Rattle.lines.proofs.told.Tie as tie
 
-empty-requires : tie.Need-empty-requires
-empty-requires c κs = search needs
-
-slice-aggregate-numbered : tie.Need-slice-aggregate-numbered
-slice-aggregate-numbered c = search needs
-
-numbered-requires : tie.Need-numbered-requires
-numbered-requires c κs = search needs
-
 returns : tie.Need-returns
 returns c =
     let start = c .before .before in
@@ -40,4 +31,4 @@ returns-2 c =
 pub told-spec : {M : Type 1} → statement M
 told-spec =
     tie.close
-    (tie.spec empty-requires slice-aggregate-numbered numbered-requires returns four-requires returns-2)
+    (tie.spec (λ c κs. search needs) (λ c. search needs) (λ c κs. search needs) returns four-requires returns-2)

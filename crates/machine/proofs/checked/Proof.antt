@@ -3,11 +3,8 @@ use borrow.Author.Needs.{needs}
 use Rattle.machine.proofs.checked.Statement.{statement}
 use Rattle.machine.proofs.checked.Tie as tie
 
-check-requires : tie.Need-check-requires
-check-requires c κs = search needs
-
 returns : tie.Need-returns
 returns c = rw (c .check .ensures)
 
 pub checked-spec : {M : Type 1} → statement M
-checked-spec = tie.close (tie.spec check-requires returns)
+checked-spec = tie.close (tie.spec (λ c κs. search needs) returns)

@@ -13,12 +13,6 @@ use Rattle.steps.specs.StepLaws.{checked-sound, checked-refused, answered-own, 
 use Rattle.machine.proofs.fresh.Statement.{statement}
 use Rattle.machine.proofs.fresh.Tie as tie
 
-still-requires : tie.Need-still-requires
-still-requires c κs = search needs
-
-checked-requires : tie.Need-checked-requires
-checked-requires c κs = search needs
-
 returns : tie.Need-returns
 unfolding freshOf
 returns c =
@@ -32,14 +26,8 @@ returns c =
 sound-here : (c : tie.Else1) → Sound (c .before .before .before .before .args .t)
 sound-here c = checked-sound _ _ _ (c .before .before .checked .ensures) (c .if1 .left)
 
-still-requires-2 : tie.Need-still-requires-2
-still-requires-2 c κs = search needs
-
 state-bad-requires : tie.Need-state-bad-requires
 state-bad-requires c κs = parts _ (sound-here (c .before)) .sizes .rules
-
-answer-requires : tie.Need-answer-requires
-answer-requires c κs = search needs
 
 -- the second test, and the number that it gives
 number : (c : tie.After-state-bad) (b : Bool) → c .state-bad .result ≡ b →
@@ -58,9 +46,6 @@ returns-2 c =
     ∙ sym (answered-own (a .t) (freshNumber (a .t) (a .cells)) zeros (still (a .cells))
     (sound-here (c .before .before .before .before)) (λ z. absurd (omega (arith, e)))))
 
-answer-requires-2 : tie.Need-answer-requires-2
-answer-requires-2 c κs = search needs
-
 returns-3 : tie.Need-returns-3
 unfolding freshOf
 returns-3 c =
@@ -73,12 +58,12 @@ pub fresh-spec : {M : Type 1} → statement M
 fresh-spec =
     tie.close
     (tie.spec
-    still-requires
-    checked-requires
+    (λ c κs. search needs)
+    (λ c κs. search needs)
     returns
-    still-requires-2
+    (λ c κs. search needs)
     state-bad-requires
-    answer-requires
+    (λ c κs. search needs)
     returns-2
-    answer-requires-2
+    (λ c κs. search needs)
     returns-3)

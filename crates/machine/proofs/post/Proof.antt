@@ -13,9 +13,6 @@ use Rattle.steps.specs.PostLaws.{posting}
 use Rattle.machine.proofs.post.Statement.{statement}
 use Rattle.machine.proofs.post.Tie as tie
 
-checked-requires : tie.Need-checked-requires
-checked-requires c κs = search needs
-
 returns : tie.Need-returns
 unfolding postOf
 returns c =
@@ -30,9 +27,6 @@ sound-here c = checked-sound _ _ _ (c .before .before .checked .ensures) (c .if1
 
 post-number-requires : tie.Need-post-number-requires
 post-number-requires c κs = parts _ (sound-here c) .sizes .rules
-
-answer-requires : tie.Need-answer-requires
-answer-requires c κs = search needs
 
 -- the posting's own number
 own : (c : tie.After-post-number) → let a = c .before .before .before .before .args in
@@ -70,9 +64,6 @@ array-set-from-cells c = cell-below c
 renewed-requires : tie.Need-renewed-requires
 renewed-requires c κs = parts _ (sound-here (c .before .before .before)) .sizes .rules
 
-answer-requires-2 : tie.Need-answer-requires-2
-answer-requires-2 c κs = search needs
-
 returns-3 : tie.Need-returns-3
 unfolding postOf
 returns-3 c =
@@ -91,13 +82,13 @@ pub post-spec : {M : Type 1} → statement M
 post-spec =
     tie.close
     (tie.spec
-    checked-requires
+    (λ c κs. search needs)
     returns
     post-number-requires
-    answer-requires
+    (λ c κs. search needs)
     returns-2
     mul-cells
     array-set-from-cells
     renewed-requires
-    answer-requires-2
+    (λ c κs. search needs)
     returns-3)

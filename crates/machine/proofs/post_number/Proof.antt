@@ -9,18 +9,9 @@ use Rattle.steps.specs.Step.{postNumber}
 use Rattle.machine.proofs.post_number.Statement.{statement}
 use Rattle.machine.proofs.post_number.Tie as tie
 
-state-bad-requires : tie.Need-state-bad-requires
-state-bad-requires c κs = search needs
-
 returns : tie.Need-returns
 unfolding postNumber
 returns c = rw (← c .before .state-bad .ensures, c .if1 .taken)
-
-count-requires : tie.Need-count-requires
-count-requires c κs = search needs
-
-out-of-range-requires : tie.Need-out-of-range-requires
-out-of-range-requires c κs = search needs
 
 -- the second test
 refused : (c : tie.After-out-of-range) → let a = c .before .before .before .before .args in
@@ -52,4 +43,4 @@ returns-3 c = rw (
 pub post-number-spec : {M : Type 1} → statement M
 post-number-spec =
     tie.close
-    (tie.spec state-bad-requires returns count-requires out-of-range-requires returns-2 returns-3)
+    (tie.spec (λ c κs. search needs) returns (λ c κs. search needs) (λ c κs. search needs) returns-2 returns-3)

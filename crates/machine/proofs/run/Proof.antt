@@ -10,9 +10,6 @@ use Rattle.steps.specs.Run.{runOf}
 use Rattle.machine.proofs.run.Statement.{statement}
 use Rattle.machine.proofs.run.Tie as tie
 
-check-requires : tie.Need-check-requires
-check-requires c κs = search needs
-
 returns : tie.Need-returns
 unfolding runOf
 returns c = rw (← c .before .before .check .ensures, ne-eqb _ 0 (c .if1 .taken))
@@ -25,9 +22,6 @@ sound-here c =
 
 state-bad-requires : tie.Need-state-bad-requires
 state-bad-requires c κs = parts _ (sound-here c) .sizes .rules
-
-ran-requires : tie.Need-ran-requires
-ran-requires c κs = search needs
 
 returns-2 : tie.Need-returns-2
 unfolding runOf
@@ -69,10 +63,10 @@ pub run-spec : {M : Type 1} → statement M
 run-spec =
     tie.close
     (tie.spec
-    check-requires
+    (λ c κs. search needs)
     returns
     state-bad-requires
-    ran-requires
+    (λ c κs. search needs)
     returns-2
     goes-before-requires
     runs-requires

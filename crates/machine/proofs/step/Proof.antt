@@ -9,9 +9,6 @@ use Rattle.steps.specs.StepLaws.{checked-sound, checked-refused, answered-own, 
 use Rattle.machine.proofs.step.Statement.{statement}
 use Rattle.machine.proofs.step.Tie as tie
 
-checked-requires : tie.Need-checked-requires
-checked-requires c κs = search needs
-
 returns : tie.Need-returns
 unfolding stepOf
 returns c =
@@ -25,9 +22,6 @@ sound-here c = checked-sound _ _ _ (c .before .before .checked .ensures) (c .if1
 
 step-number-requires : tie.Need-step-number-requires
 step-number-requires c κs = parts _ (sound-here c) .sizes .rules
-
-answer-requires : tie.Need-answer-requires
-answer-requires c κs = search needs
 
 returns-2 : tie.Need-returns-2
 unfolding stepOf
@@ -59,9 +53,6 @@ effect-requires c κs =
       free c .below,
     )
 
-answer-requires-2 : tie.Need-answer-requires-2
-answer-requires-2 c κs = search needs
-
 returns-3 : tie.Need-returns-3
 unfolding stepOf
 returns-3 c =
@@ -75,11 +66,11 @@ pub step-spec : {M : Type 1} → statement M
 step-spec =
     tie.close
     (tie.spec
-    checked-requires
+    (λ c κs. search needs)
     returns
     step-number-requires
-    answer-requires
+    (λ c κs. search needs)
     returns-2
     effect-requires
-    answer-requires-2
+    (λ c κs. search needs)
     returns-3)

@@ -14,15 +14,9 @@ use Rattle.steps.specs.Step.{stepNumber}
 use Rattle.machine.proofs.step_number.Statement.{statement}
 use Rattle.machine.proofs.step_number.Tie as tie
 
-state-bad-requires : tie.Need-state-bad-requires
-state-bad-requires c κs = search needs
-
 returns : tie.Need-returns
 unfolding stepNumber
 returns c = rw (← c .before .state-bad .ensures, c .if1 .taken)
-
-count-requires : tie.Need-count-requires
-count-requires c κs = search needs
 
 returns-2 : tie.Need-returns-2
 unfolding stepNumber
@@ -53,12 +47,6 @@ returns-3 c =
       ← c .before .has .ensures,
       c .if3 .taken,
     )
-
-goes-before-requires : tie.Need-goes-before-requires
-goes-before-requires c κs = search needs
-
-gather-requires : tie.Need-gather-requires
-gather-requires c κs = search needs
 
 has-requires-2 : tie.Need-has-requires-2
 has-requires-2 c κs = omega (
@@ -110,14 +98,14 @@ pub step-number-spec : {M : Type 1} → statement M
 step-number-spec =
     tie.close
     (tie.spec
-    state-bad-requires
+    (λ c κs. search needs)
     returns
-    count-requires
+    (λ c κs. search needs)
     returns-2
     has-requires
     returns-3
-    goes-before-requires
-    gather-requires
+    (λ c κs. search needs)
+    (λ c κs. search needs)
     has-requires-2
     returns-4
     returns-5)

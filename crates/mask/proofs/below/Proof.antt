@@ -10,9 +10,6 @@ use borrow.Author.Needs.{needs}
 use Rattle.mask.proofs.below.Statement.{statement}
 use Rattle.mask.proofs.below.Tie as tie
 
-shl-result : tie.Need-shl-result
-shl-result c = search needs
-
 sub-result : tie.Need-sub-result
 sub-result c = omega (arith, wide-shl (c .args .n) (c .pre), pow-pos (c .args .n))
 
@@ -23,4 +20,4 @@ returns : tie.Need-returns
 returns c = λ k. ap (λ (x : ℕ). has (x - 1) k) (wide-shl (c .args .n) (c .pre)) ∙ has-ones (c .args .n) k
 
 pub below-spec : {M : Type 1} → statement M
-below-spec = tie.close (tie.spec shl-result sub-result cast-result returns)
+below-spec = tie.close (tie.spec (λ c. search needs) sub-result cast-result returns)

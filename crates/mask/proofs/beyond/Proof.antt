@@ -7,12 +7,9 @@ use borrow.Author.Needs.{needs}
 use Rattle.mask.proofs.beyond.Statement.{statement}
 use Rattle.mask.proofs.beyond.Tie as tie
 
-shl-result : tie.Need-shl-result
-shl-result c = search needs
-
 returns : tie.Need-returns
 returns c =
     ap (λ (x : ℕ). leb x (c .args .m)) (wide-shl (c .args .n) (c .pre)) ∙ beyond-law (c .args .m) (c .args .n) (c .fits .m .fits)
 
 pub beyond-spec : {M : Type 1} → statement M
-beyond-spec = tie.close (tie.spec shl-result returns)
+beyond-spec = tie.close (tie.spec (λ c. search needs) returns)

@@ -21,9 +21,6 @@ abbrev μ-loop : tie.MeasureT-loop
 loop-holds : tie.Need-loop-holds Inv-loop μ-loop
 loop-holds c = (search needs, search needs, gathering-start (c .args .t1) _)
 
-lowest-requires : tie.Need-lowest-requires Inv-loop μ-loop
-lowest-requires c κs = search needs
-
 -- the lowest member is one
 low : (c : tie.After-lowest Inv-loop μ-loop)
     → (c .lowest .result < 32) × (has (c .before .before .loop .left) (c .lowest .result) ≡ true)
@@ -64,7 +61,7 @@ gather-spec =
     Inv-loop
     μ-loop
     loop-holds
-    lowest-requires
+    (λ c κs. search needs)
     mul-a
     array-read-a
     without-requires

@@ -7,15 +7,9 @@ use borrow.Author.Needs.{needs}
 use Rattle.mask.proofs.has.Statement.{statement}
 use Rattle.mask.proofs.has.Tie as tie
 
-cast-result : tie.Need-cast-result
-cast-result c = search needs
-
-shr-result : tie.Need-shr-result
-shr-result c = search needs
-
 returns : tie.Need-returns
 unfolding has
 returns c = ap (λ (x : ℕ). eqb x 1) (and-mask (c .args .m / 2 ^ c .args .i) 1)
 
 pub has-spec : {M : Type 1} → statement M
-has-spec = tie.close (tie.spec cast-result shr-result returns)
+has-spec = tie.close (tie.spec (λ c. search needs) (λ c. search needs) returns)

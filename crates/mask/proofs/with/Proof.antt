@@ -3,14 +3,8 @@ use borrow.Author.Needs.{needs}
 use Rattle.mask.proofs.with.Statement.{statement}
 use Rattle.mask.proofs.with.Tie as tie
 
-cast-result : tie.Need-cast-result
-cast-result c = search needs
-
-shl-result : tie.Need-shl-result
-shl-result c = search needs
-
 returns : tie.Need-returns
 returns c = has-with (c .args .m) (c .args .i) (c .pre)
 
 pub with-spec : {M : Type 1} → statement M
-with-spec = tie.close (tie.spec cast-result shl-result returns)
+with-spec = tie.close (tie.spec (λ c. search needs) (λ c. search needs) returns)

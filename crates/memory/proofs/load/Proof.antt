@@ -15,33 +15,12 @@ Inv-loop s rules₀ i₀ rules i = (i ≤ 32) × (rules ≡ filled 32 noRule (ru
 abbrev μ-loop : tie.MeasureT-loop
 μ-loop s rules₀ i₀ rules i = 32 - i
 
-no-rule-requires : tie.Need-no-rule-requires Inv-loop μ-loop
-no-rule-requires c κs = search needs
-
 loop-holds : tie.Need-loop-holds Inv-loop μ-loop
 loop-holds c = (search needs, rw (c .no-rule .ensures))
-
-mul-read-rule : tie.Need-mul-read-rule Inv-loop μ-loop
-mul-read-rule c = search needs
-
-add-read-rule : tie.Need-add-read-rule Inv-loop μ-loop
-add-read-rule c = search needs
 
 read-rule-requires : tie.Need-read-rule-requires Inv-loop μ-loop
 read-rule-requires c κs =
     record { tests = omega arith; assigns = omega arith; letters = omega arith; inside = search needs }
-
-mul-rules : tie.Need-mul-rules Inv-loop μ-loop
-mul-rules c = search needs
-
-array-set-from-rules : tie.Need-array-set-from-rules Inv-loop μ-loop
-array-set-from-rules c = search needs
-
-add-i : tie.Need-add-i Inv-loop μ-loop
-add-i c = search needs
-
-loop-less : tie.Need-loop-less Inv-loop μ-loop
-loop-less c = search needs
 
 loop-again : tie.Need-loop-again Inv-loop μ-loop
 loop-again c =
@@ -49,12 +28,6 @@ loop-again c =
     let s = c .before .before .before .before .before .args .s .now in
     let h : l .i < 32 = omega arith in
     (search needs, rw (l .inv .1, c .read-rule .ensures) (filled-more 32 noRule (ruleFrom s) (l .i) h))
-
-element-copy-out-t16 : tie.Need-element-copy-out-t16 Inv-loop μ-loop
-element-copy-out-t16 c = search needs
-
-element-copy-out-t19 : tie.Need-element-copy-out-t19 Inv-loop μ-loop
-element-copy-out-t19 c = search needs
 
 returns : tie.Need-returns Inv-loop μ-loop
 unfolding tableFrom
@@ -69,16 +42,16 @@ load-spec =
     (tie.spec
     Inv-loop
     μ-loop
-    no-rule-requires
+    (λ c κs. search needs)
     loop-holds
-    mul-read-rule
-    add-read-rule
+    (λ c. search needs)
+    (λ c. search needs)
     read-rule-requires
-    mul-rules
-    array-set-from-rules
-    add-i
-    loop-less
+    (λ c. search needs)
+    (λ c. search needs)
+    (λ c. search needs)
+    (λ c. search needs)
     loop-again
-    element-copy-out-t16
-    element-copy-out-t19
+    (λ c. search needs)
+    (λ c. search needs)
     returns)

@@ -20,34 +20,13 @@ Inv-loop out₀ rules i₀ out i = (i ≤ 32) × (out ≡ put out₀ 4 (rulesByt
 abbrev μ-loop : tie.MeasureT-loop
 μ-loop out₀ rules i₀ out i = 32 - i
 
-put-4-requires : tie.Need-put-4-requires Inv-loop μ-loop
-put-4-requires c κs = search needs
-
 loop-holds : tie.Need-loop-holds Inv-loop μ-loop
 unfolding rulesBytes joined
 loop-holds c = (search needs, sym (put-nil (c .put-4 .last .0) 4), search needs)
 
-mul-write-rule : tie.Need-mul-write-rule Inv-loop μ-loop
-mul-write-rule c = search needs
-
-add-write-rule : tie.Need-add-write-rule Inv-loop μ-loop
-add-write-rule c = search needs
-
-mul-write-rule-2 : tie.Need-mul-write-rule-2 Inv-loop μ-loop
-mul-write-rule-2 c = search needs
-
-array-copy-out-write-rule : tie.Need-array-copy-out-write-rule Inv-loop μ-loop
-array-copy-out-write-rule c = search needs
-
 write-rule-requires : tie.Need-write-rule-requires Inv-loop μ-loop
 write-rule-requires c κs =
     record { tests = omega arith; assigns = omega arith; letters = omega arith; inside = search needs }
-
-add-i : tie.Need-add-i Inv-loop μ-loop
-add-i c = search needs
-
-loop-less : tie.Need-loop-less Inv-loop μ-loop
-loop-less c = search needs
 
 loop-again : tie.Need-loop-again Inv-loop μ-loop
 loop-again c =
@@ -84,14 +63,14 @@ store-spec =
     (tie.spec
     Inv-loop
     μ-loop
-    put-4-requires
+    (λ c κs. search needs)
     loop-holds
-    mul-write-rule
-    add-write-rule
-    mul-write-rule-2
-    array-copy-out-write-rule
+    (λ c. search needs)
+    (λ c. search needs)
+    (λ c. search needs)
+    (λ c. search needs)
     write-rule-requires
-    add-i
-    loop-less
+    (λ c. search needs)
+    (λ c. search needs)
     loop-again
     returns)

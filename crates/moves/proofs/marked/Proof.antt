@@ -9,9 +9,6 @@ use Rattle.steps.specs.Step.{marked}
 use Rattle.moves.proofs.marked.Statement.{statement}
 use Rattle.moves.proofs.marked.Tie as tie
 
-with-requires : tie.Need-with-requires
-with-requires c κs = search needs
-
 returns : tie.Need-returns
 unfolding marked
 returns c =
@@ -20,4 +17,4 @@ returns c =
     rw (is-maskOf (c .with .result) (λ x. has (s .faults) x || eqb x r) (omega arith) (c .with .ensures))
 
 pub marked-spec : {M : Type 1} → statement M
-marked-spec = tie.close (tie.spec with-requires returns)
+marked-spec = tie.close (tie.spec (λ c κs. search needs) returns)

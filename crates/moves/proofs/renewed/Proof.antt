@@ -14,15 +14,6 @@ use Rattle.mask.specs.Below.{is-maskOf, meet-maskOf}
 use Rattle.moves.proofs.renewed.Statement.{statement}
 use Rattle.moves.proofs.renewed.Tie as tie
 
-changed-requires : tie.Need-changed-requires
-changed-requires c κs = search needs
-
-watchers-requires : tie.Need-watchers-requires
-watchers-requires c κs = search needs
-
-union-requires : tie.Need-union-requires
-union-requires c κs = search needs
-
 returns : tie.Need-returns
 unfolding renewed wakes
 returns c =
@@ -37,4 +28,4 @@ returns c =
     ∙ ap (λ (b : Bool). ltb x (a .t .n) && b) (meet-maskOf (ruleAt (a .t) x .watch) (changes (s .cells) (a .after))))))
 
 pub renewed-spec : {M : Type 1} → statement M
-renewed-spec = tie.close (tie.spec changed-requires watchers-requires union-requires returns)
+renewed-spec = tie.close (tie.spec (λ c κs. search needs) (λ c κs. search needs) (λ c κs. search needs) returns)

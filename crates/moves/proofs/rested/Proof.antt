@@ -9,9 +9,6 @@ use Rattle.steps.specs.Step.{rested}
 use Rattle.moves.proofs.rested.Statement.{statement}
 use Rattle.moves.proofs.rested.Tie as tie
 
-without-requires : tie.Need-without-requires
-without-requires c κs = search needs
-
 returns : tie.Need-returns
 unfolding rested
 returns c =
@@ -20,4 +17,4 @@ returns c =
     rw (is-maskOf (c .without .result) (λ x. waits s x && not (eqb x r)) (omega arith) (c .without .ensures))
 
 pub rested-spec : {M : Type 1} → statement M
-rested-spec = tie.close (tie.spec without-requires returns)
+rested-spec = tie.close (tie.spec (λ c κs. search needs) returns)

@@ -4,15 +4,6 @@ use Rattle.steps.specs.State.{stateBad}
 use Rattle.moves.proofs.state_bad.Statement.{statement}
 use Rattle.moves.proofs.state_bad.Tie as tie
 
-count-requires : tie.Need-count-requires
-count-requires c κs = search needs
-
-count-requires-2 : tie.Need-count-requires-2
-count-requires-2 c κs = search needs
-
-cells-bad-requires : tie.Need-cells-bad-requires
-cells-bad-requires c κs = search needs
-
 beyond-requires : tie.Need-beyond-requires
 beyond-requires c κs = rw (c .before .before .count .ensures .0) (c .before .before .before .before .pre)
 
@@ -34,9 +25,9 @@ pub state-bad-spec : {M : Type 1} → statement M
 state-bad-spec =
     tie.close
     (tie.spec
-    count-requires
-    count-requires-2
-    cells-bad-requires
+    (λ c κs. search needs)
+    (λ c κs. search needs)
+    (λ c κs. search needs)
     beyond-requires
     beyond-requires-2
     returns)

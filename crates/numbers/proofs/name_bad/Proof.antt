@@ -16,18 +16,6 @@ abbrev μ-loop : tie.MeasureT-loop
 loop-holds : tie.Need-loop-holds Inv-loop μ-loop
 loop-holds c = (search needs, sought-none)
 
-array-read-letter-bad : tie.Need-array-read-letter-bad Inv-loop μ-loop
-array-read-letter-bad c = search needs
-
-letter-bad-requires : tie.Need-letter-bad-requires Inv-loop μ-loop
-letter-bad-requires c κs = search needs
-
-add-j : tie.Need-add-j Inv-loop μ-loop
-add-j c = search needs
-
-loop-less : tie.Need-loop-less Inv-loop μ-loop
-loop-less c = search needs
-
 loop-again : tie.Need-loop-again Inv-loop μ-loop
 loop-again c =
     (search needs, sought-more (c .before .before .loop .inv .1) (c .letter-bad .ensures))
@@ -43,9 +31,9 @@ name-bad-spec =
     Inv-loop
     μ-loop
     loop-holds
-    array-read-letter-bad
-    letter-bad-requires
-    add-j
-    loop-less
+    (λ c. search needs)
+    (λ c κs. search needs)
+    (λ c. search needs)
+    (λ c. search needs)
     loop-again
     returns)

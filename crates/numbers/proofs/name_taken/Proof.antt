@@ -17,21 +17,6 @@ abbrev μ-loop : tie.MeasureT-loop
 loop-holds : tie.Need-loop-holds Inv-loop μ-loop
 loop-holds c = (search needs, sought-none)
 
-mul-same-name : tie.Need-mul-same-name Inv-loop μ-loop
-mul-same-name c = search needs
-
-array-copy-out-same-name : tie.Need-array-copy-out-same-name Inv-loop μ-loop
-array-copy-out-same-name c = search needs
-
-same-name-requires : tie.Need-same-name-requires Inv-loop μ-loop
-same-name-requires c κs = search needs
-
-add-h : tie.Need-add-h Inv-loop μ-loop
-add-h c = search needs
-
-loop-less : tie.Need-loop-less Inv-loop μ-loop
-loop-less c = search needs
-
 loop-again : tie.Need-loop-again Inv-loop μ-loop
 loop-again c =
     (search needs, sought-more (c .before .before .before .loop .inv .1) (c .same-name .ensures))
@@ -48,10 +33,10 @@ name-taken-spec =
     Inv-loop
     μ-loop
     loop-holds
-    mul-same-name
-    array-copy-out-same-name
-    same-name-requires
-    add-h
-    loop-less
+    (λ c. search needs)
+    (λ c. search needs)
+    (λ c κs. search needs)
+    (λ c. search needs)
+    (λ c. search needs)
     loop-again
     returns)

@@ -7,9 +7,6 @@ use borrow.Author.Needs.{needs}
 use Rattle.numbers.proofs.rule_number.Statement.{statement}
 use Rattle.numbers.proofs.rule_number.Tie as tie
 
-counts-bad-requires : tie.Need-counts-bad-requires
-counts-bad-requires c κs = search needs
-
 returns : tie.Need-returns
 unfolding ruleNumber
 returns c = rw (← c .before .counts-bad .ensures, c .if1 .taken)
@@ -26,9 +23,6 @@ unfolding ruleNumber
 returns-2 c =
     let d = c .before .before in
     rw (← d .before .counts-bad .ensures, d .if1 .left, ← c .before .cells-bad .ensures, c .if2 .taken)
-
-forms-bad-requires : tie.Need-forms-bad-requires
-forms-bad-requires c κs = search needs
 
 returns-3 : tie.Need-returns-3
 unfolding ruleNumber
@@ -104,11 +98,11 @@ pub rule-number-spec : {M : Type 1} → statement M
 rule-number-spec =
     tie.close
     (tie.spec
-    counts-bad-requires
+    (λ c κs. search needs)
     returns
     cells-bad-requires
     returns-2
-    forms-bad-requires
+    (λ c κs. search needs)
     returns-3
     twice-requires
     returns-4

@@ -15,26 +15,8 @@ Inv-loop j xs y bad₀ i₀ bad i = (i ≤ j) × Sought (λ h. eqb (getD xs h no
 abbrev μ-loop : tie.MeasureT-loop
 μ-loop j xs y bad₀ i₀ bad i = j - i
 
-mul-y : tie.Need-mul-y Inv-loop μ-loop
-mul-y c = search needs
-
-array-copy-out-y : tie.Need-array-copy-out-y Inv-loop μ-loop
-array-copy-out-y c = search needs
-
 loop-holds : tie.Need-loop-holds Inv-loop μ-loop
 loop-holds c = (search needs, sought-none)
-
-mul-x : tie.Need-mul-x Inv-loop μ-loop
-mul-x c = search needs
-
-array-copy-out-x : tie.Need-array-copy-out-x Inv-loop μ-loop
-array-copy-out-x c = search needs
-
-add-i : tie.Need-add-i Inv-loop μ-loop
-add-i c = search needs
-
-loop-less : tie.Need-loop-less Inv-loop μ-loop
-loop-less c = search needs
 
 loop-again : tie.Need-loop-again Inv-loop μ-loop
 loop-again c =
@@ -50,12 +32,12 @@ target-taken-spec =
     (tie.spec
     Inv-loop
     μ-loop
-    mul-y
-    array-copy-out-y
+    (λ c. search needs)
+    (λ c. search needs)
     loop-holds
-    mul-x
-    array-copy-out-x
-    add-i
-    loop-less
+    (λ c. search needs)
+    (λ c. search needs)
+    (λ c. search needs)
+    (λ c. search needs)
     loop-again
     returns)

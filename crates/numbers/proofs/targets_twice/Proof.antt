@@ -18,15 +18,6 @@ abbrev μ-loop : tie.MeasureT-loop
 loop-holds : tie.Need-loop-holds Inv-loop μ-loop
 loop-holds c = (search needs, sought-none)
 
-target-taken-requires : tie.Need-target-taken-requires Inv-loop μ-loop
-target-taken-requires c κs = search needs
-
-add-j : tie.Need-add-j Inv-loop μ-loop
-add-j c = search needs
-
-loop-less : tie.Need-loop-less Inv-loop μ-loop
-loop-less c = search needs
-
 loop-again : tie.Need-loop-again Inv-loop μ-loop
 loop-again c =
     (search needs, sought-more (c .before .before .loop .inv .1) (c .target-taken .ensures))
@@ -38,4 +29,4 @@ returns c =
 pub targets-twice-spec : {M : Type 1} → statement M
 targets-twice-spec =
     tie.close
-    (tie.spec Inv-loop μ-loop loop-holds target-taken-requires add-j loop-less loop-again returns)
+    (tie.spec Inv-loop μ-loop loop-holds (λ c κs. search needs) (λ c. search needs) (λ c. search needs) loop-again returns)

@@ -11,39 +11,6 @@ use borrow.Author.Needs.{needs}
 use Rattle.pairs.proofs.clashing.Statement.{statement}
 use Rattle.pairs.proofs.clashing.Tie as tie
 
-mul-own : tie.Need-mul-own
-mul-own c = search needs
-
-array-read-own : tie.Need-array-read-own
-array-read-own c = search needs
-
-mul-touched : tie.Need-mul-touched
-mul-touched c = search needs
-
-array-read-touched : tie.Need-array-read-touched
-array-read-touched c = search needs
-
-mul-touched-2 : tie.Need-mul-touched-2
-mul-touched-2 c = search needs
-
-array-read-touched-2 : tie.Need-array-read-touched-2
-array-read-touched-2 c = search needs
-
-touching-requires : tie.Need-touching-requires
-touching-requires c κs = search needs
-
-touching-requires-2 : tie.Need-touching-requires-2
-touching-requires-2 c κs = search needs
-
-touching-requires-3 : tie.Need-touching-requires-3
-touching-requires-3 c κs = search needs
-
-touching-requires-4 : tie.Need-touching-requires-4
-touching-requires-4 c κs = search needs
-
-without-requires : tie.Need-without-requires
-without-requires c κs = search needs
-
 -- four masks, joined
 four : (a b p q s : ℕ) (x y z w : Bool) → has a s ≡ x → has b s ≡ y → has p s ≡ z → has q s ≡ w
     → has (bitOr (bitOr (bitOr a b) p) q) s ≡ (((x || y) || z) || w)
@@ -67,15 +34,15 @@ pub clashing-spec : {M : Type 1} → statement M
 clashing-spec =
     tie.close
     (tie.spec
-    mul-own
-    array-read-own
-    mul-touched
-    array-read-touched
-    mul-touched-2
-    array-read-touched-2
-    touching-requires
-    touching-requires-2
-    touching-requires-3
-    touching-requires-4
-    without-requires
+    (λ c. search needs)
+    (λ c. search needs)
+    (λ c. search needs)
+    (λ c. search needs)
+    (λ c. search needs)
+    (λ c. search needs)
+    (λ c κs. search needs)
+    (λ c κs. search needs)
+    (λ c κs. search needs)
+    (λ c κs. search needs)
+    (λ c κs. search needs)
     returns)

@@ -8,12 +8,6 @@ use borrow.Author.Needs.{needs}
 use Rattle.pairs.proofs.grow.Statement.{statement}
 use Rattle.pairs.proofs.grow.Tie as tie
 
-gather-requires : tie.Need-gather-requires
-gather-requires c κs = search needs
-
-touching-requires : tie.Need-touching-requires
-touching-requires c κs = search needs
-
 returns : tie.Need-returns
 unfolding grows
 returns c s =
@@ -24,4 +18,4 @@ returns c s =
     (c .touching .ensures s))
 
 pub grow-spec : {M : Type 1} → statement M
-grow-spec = tie.close (tie.spec gather-requires touching-requires returns)
+grow-spec = tie.close (tie.spec (λ c κs. search needs) (λ c κs. search needs) returns)

@@ -29,12 +29,6 @@ loop-holds c =
     (λ k. c .before .with .ensures k ∙ ap (λ (b : Bool). b || eqb k (c .before .before .args .i)) (has-zero k))
     (λ k. c .with2 .ensures k ∙ ap (λ (b : Bool). b || eqb k (c .before .before .args .j)) (has-zero k))
 
-grow-requires : tie.Need-grow-requires Inv-loop μ-loop
-grow-requires c κs = search needs
-
-grow-requires-2 : tie.Need-grow-requires-2 Inv-loop μ-loop
-grow-requires-2 c κs = search needs
-
 returns : tie.Need-returns Inv-loop μ-loop
 returns c =
     growing-end (c .before .before .before .before .loop .inv) _ _ (c .before .before .before .grow .ensures)
@@ -73,8 +67,8 @@ grown-spec =
     with-requires
     with-requires-2
     loop-holds
-    grow-requires
-    grow-requires-2
+    (λ c κs. search needs)
+    (λ c κs. search needs)
     returns
     loop-less
     loop-again

@@ -11,30 +11,6 @@ use borrow.Author.Needs.{needs}
 use Rattle.pairs.proofs.judge.Statement.{statement}
 use Rattle.pairs.proofs.judge.Tie as tie
 
-grown-requires : tie.Need-grown-requires
-grown-requires c κs = search needs
-
-touching-requires : tie.Need-touching-requires
-touching-requires c κs = search needs
-
-common-requires : tie.Need-common-requires
-common-requires c κs = search needs
-
-lowest-requires : tie.Need-lowest-requires
-lowest-requires c κs = search needs
-
-mul-common : tie.Need-mul-common
-mul-common c = search needs
-
-array-read-common : tie.Need-array-read-common
-array-read-common c = search needs
-
-common-requires-2 : tie.Need-common-requires-2
-common-requires-2 c κs = search needs
-
-lowest-requires-2 : tie.Need-lowest-requires-2
-lowest-requires-2 c κs = search needs
-
 -- the second culprit is a small number too
 small : (c : tie.After-lowest2) → c .lowest2 .result ≤ 32
 small c = omega (arith, c .lowest2 .ensures, lowest-is (c .before .common2 .result) .bound)
@@ -70,14 +46,14 @@ pub judge-spec : {M : Type 1} → statement M
 judge-spec =
     tie.close
     (tie.spec
-    grown-requires
-    touching-requires
-    common-requires
-    lowest-requires
-    mul-common
-    array-read-common
-    common-requires-2
-    lowest-requires-2
+    (λ c κs. search needs)
+    (λ c κs. search needs)
+    (λ c κs. search needs)
+    (λ c κs. search needs)
+    (λ c. search needs)
+    (λ c. search needs)
+    (λ c κs. search needs)
+    (λ c κs. search needs)
     cast-t22
     cast-t23
     returns

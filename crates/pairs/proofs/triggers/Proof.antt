@@ -22,27 +22,6 @@ abbrev μ-loop : tie.MeasureT-loop
 loop-holds : tie.Need-loop-holds Inv-loop μ-loop
 loop-holds c = (search needs, search needs, search needs, upto-none _ _)
 
-mul-touching : tie.Need-mul-touching Inv-loop μ-loop
-mul-touching c = search needs
-
-array-read-touching : tie.Need-array-read-touching Inv-loop μ-loop
-array-read-touching c = search needs
-
-touching-requires : tie.Need-touching-requires Inv-loop μ-loop
-touching-requires c κs = search needs
-
-mul-t : tie.Need-mul-t Inv-loop μ-loop
-mul-t c = search needs
-
-array-write-t : tie.Need-array-write-t Inv-loop μ-loop
-array-write-t c = search needs
-
-add-r : tie.Need-add-r Inv-loop μ-loop
-add-r c = search needs
-
-loop-less : tie.Need-loop-less Inv-loop μ-loop
-loop-less c = search needs
-
 loop-again : tie.Need-loop-again Inv-loop μ-loop
 loop-again c =
     let inv = c .before .before .loop .inv in
@@ -59,12 +38,12 @@ triggers-spec =
     Inv-loop
     μ-loop
     loop-holds
-    mul-touching
-    array-read-touching
-    touching-requires
-    mul-t
-    array-write-t
-    add-r
-    loop-less
+    (λ c. search needs)
+    (λ c. search needs)
+    (λ c κs. search needs)
+    (λ c. search needs)
+    (λ c. search needs)
+    (λ c. search needs)
+    (λ c. search needs)
     loop-again
     returns)

@@ -15,32 +15,8 @@ Inv-loop s at a out₀ j₀ out j = (j ≤ a) × (out ≡ assignsIn s at j)
 abbrev μ-loop : tie.MeasureT-loop
 μ-loop s at a out₀ j₀ out j = a - j
 
-no-assign-requires : tie.Need-no-assign-requires Inv-loop μ-loop
-no-assign-requires c κs = search needs
-
 loop-holds : tie.Need-loop-holds Inv-loop μ-loop
 loop-holds c = (search needs, rw (c .no-assign .ensures))
-
-mul-read-assign : tie.Need-mul-read-assign Inv-loop μ-loop
-mul-read-assign c = search needs
-
-add-read-assign : tie.Need-add-read-assign Inv-loop μ-loop
-add-read-assign c = search needs
-
-read-assign-requires : tie.Need-read-assign-requires Inv-loop μ-loop
-read-assign-requires c κs = search needs
-
-mul-out : tie.Need-mul-out Inv-loop μ-loop
-mul-out c = search needs
-
-array-set-from-out : tie.Need-array-set-from-out Inv-loop μ-loop
-array-set-from-out c = search needs
-
-add-j : tie.Need-add-j Inv-loop μ-loop
-add-j c = search needs
-
-loop-less : tie.Need-loop-less Inv-loop μ-loop
-loop-less c = search needs
 
 loop-again : tie.Need-loop-again Inv-loop μ-loop
 loop-again c =
@@ -61,14 +37,14 @@ read-assigns-spec =
     (tie.spec
     Inv-loop
     μ-loop
-    no-assign-requires
+    (λ c κs. search needs)
     loop-holds
-    mul-read-assign
-    add-read-assign
-    read-assign-requires
-    mul-out
-    array-set-from-out
-    add-j
-    loop-less
+    (λ c. search needs)
+    (λ c. search needs)
+    (λ c κs. search needs)
+    (λ c. search needs)
+    (λ c. search needs)
+    (λ c. search needs)
+    (λ c. search needs)
     loop-again
     returns)

@@ -15,32 +15,8 @@ Inv-loop s at t out₀ j₀ out j = (j ≤ t) × (out ≡ testsIn s at j)
 abbrev μ-loop : tie.MeasureT-loop
 μ-loop s at t out₀ j₀ out j = t - j
 
-no-test-requires : tie.Need-no-test-requires Inv-loop μ-loop
-no-test-requires c κs = search needs
-
 loop-holds : tie.Need-loop-holds Inv-loop μ-loop
 loop-holds c = (search needs, rw (c .no-test .ensures))
-
-mul-read-test : tie.Need-mul-read-test Inv-loop μ-loop
-mul-read-test c = search needs
-
-add-read-test : tie.Need-add-read-test Inv-loop μ-loop
-add-read-test c = search needs
-
-read-test-requires : tie.Need-read-test-requires Inv-loop μ-loop
-read-test-requires c κs = search needs
-
-mul-out : tie.Need-mul-out Inv-loop μ-loop
-mul-out c = search needs
-
-array-set-from-out : tie.Need-array-set-from-out Inv-loop μ-loop
-array-set-from-out c = search needs
-
-add-j : tie.Need-add-j Inv-loop μ-loop
-add-j c = search needs
-
-loop-less : tie.Need-loop-less Inv-loop μ-loop
-loop-less c = search needs
 
 loop-again : tie.Need-loop-again Inv-loop μ-loop
 loop-again c =
@@ -61,14 +37,14 @@ read-tests-spec =
     (tie.spec
     Inv-loop
     μ-loop
-    no-test-requires
+    (λ c κs. search needs)
     loop-holds
-    mul-read-test
-    add-read-test
-    read-test-requires
-    mul-out
-    array-set-from-out
-    add-j
-    loop-less
+    (λ c. search needs)
+    (λ c. search needs)
+    (λ c κs. search needs)
+    (λ c. search needs)
+    (λ c. search needs)
+    (λ c. search needs)
+    (λ c. search needs)
     loop-again
     returns)

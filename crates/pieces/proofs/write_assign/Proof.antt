@@ -15,30 +15,6 @@ use borrow.Author.Needs.{needs}
 use Rattle.pieces.proofs.write_assign.Statement.{statement}
 use Rattle.pieces.proofs.write_assign.Tie as tie
 
-put-4-requires : tie.Need-put-4-requires
-put-4-requires c κs = search needs
-
-add-put-i64 : tie.Need-add-put-i64
-add-put-i64 c = search needs
-
-put-i64-requires : tie.Need-put-i64-requires
-put-i64-requires c κs = search needs
-
-add-put-u32 : tie.Need-add-put-u32
-add-put-u32 c = search needs
-
-put-u32-requires : tie.Need-put-u32-requires
-put-u32-requires c κs = search needs
-
-add-put-u32-2 : tie.Need-add-put-u32-2
-add-put-u32-2 c = search needs
-
-put-u32-requires-2 : tie.Need-put-u32-requires-2
-put-u32-requires-2 c κs = search needs
-
-same-length : tie.Need-same-length
-same-length c = search needs
-
 returns : tie.Need-returns
 unfolding assignBytes
 returns c =
@@ -66,12 +42,12 @@ pub write-assign-spec : {M : Type 1} → statement M
 write-assign-spec =
     tie.close
     (tie.spec
-    put-4-requires
-    add-put-i64
-    put-i64-requires
-    add-put-u32
-    put-u32-requires
-    add-put-u32-2
-    put-u32-requires-2
-    same-length
+    (λ c κs. search needs)
+    (λ c. search needs)
+    (λ c κs. search needs)
+    (λ c. search needs)
+    (λ c κs. search needs)
+    (λ c. search needs)
+    (λ c κs. search needs)
+    (λ c. search needs)
     returns)

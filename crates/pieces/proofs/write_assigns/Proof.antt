@@ -23,27 +23,6 @@ loop-holds : tie.Need-loop-holds Inv-loop μ-loop
 unfolding assignsBytes joined
 loop-holds c = (search needs, sym (put-nil (c .before .args .out .now) (c .before .args .at)), search needs)
 
-mul-write-assign : tie.Need-mul-write-assign Inv-loop μ-loop
-mul-write-assign c = search needs
-
-add-write-assign : tie.Need-add-write-assign Inv-loop μ-loop
-add-write-assign c = search needs
-
-mul-write-assign-2 : tie.Need-mul-write-assign-2 Inv-loop μ-loop
-mul-write-assign-2 c = search needs
-
-array-copy-out-write-assign : tie.Need-array-copy-out-write-assign Inv-loop μ-loop
-array-copy-out-write-assign c = search needs
-
-write-assign-requires : tie.Need-write-assign-requires Inv-loop μ-loop
-write-assign-requires c κs = search needs
-
-add-j : tie.Need-add-j Inv-loop μ-loop
-add-j c = search needs
-
-loop-less : tie.Need-loop-less Inv-loop μ-loop
-loop-less c = search needs
-
 loop-again : tie.Need-loop-again Inv-loop μ-loop
 unfolding assignsBytes
 loop-again c =
@@ -60,9 +39,6 @@ loop-again c =
       search needs,
     )
 
-same-length : tie.Need-same-length Inv-loop μ-loop
-same-length c = search needs
-
 returns : tie.Need-returns Inv-loop μ-loop
 returns c =
     let l = c .before in
@@ -77,13 +53,13 @@ write-assigns-spec =
     Inv-loop
     μ-loop
     loop-holds
-    mul-write-assign
-    add-write-assign
-    mul-write-assign-2
-    array-copy-out-write-assign
-    write-assign-requires
-    add-j
-    loop-less
+    (λ c. search needs)
+    (λ c. search needs)
+    (λ c. search needs)
+    (λ c. search needs)
+    (λ c κs. search needs)
+    (λ c. search needs)
+    (λ c. search needs)
     loop-again
-    same-length
+    (λ c. search needs)
     returns)

@@ -11,24 +11,6 @@ use borrow.Author.Needs.{needs}
 use Rattle.pieces.proofs.write_head.Statement.{statement}
 use Rattle.pieces.proofs.write_head.Tie as tie
 
-put-u32-requires : tie.Need-put-u32-requires
-put-u32-requires c κs = search needs
-
-add-put-u32 : tie.Need-add-put-u32
-add-put-u32 c = search needs
-
-put-u32-requires-2 : tie.Need-put-u32-requires-2
-put-u32-requires-2 c κs = search needs
-
-add-put-4 : tie.Need-add-put-4
-add-put-4 c = search needs
-
-put-4-requires : tie.Need-put-4-requires
-put-4-requires c κs = search needs
-
-same-length : tie.Need-same-length
-same-length c = search needs
-
 returns : tie.Need-returns
 unfolding headBytes
 returns c =
@@ -51,10 +33,10 @@ pub write-head-spec : {M : Type 1} → statement M
 write-head-spec =
     tie.close
     (tie.spec
-    put-u32-requires
-    add-put-u32
-    put-u32-requires-2
-    add-put-4
-    put-4-requires
-    same-length
+    (λ c κs. search needs)
+    (λ c. search needs)
+    (λ c κs. search needs)
+    (λ c. search needs)
+    (λ c κs. search needs)
+    (λ c. search needs)
     returns)

@@ -1,7 +1,6 @@
 -- The first m letters, as they are.
-use mathlib.Core.Path.{_≡_, sym, ap, _∙_}
+use mathlib.Core.Path.{sym, ap, _∙_}
 use native.Mathlib.Omega.{arith}
-use lib.ListN.{length}
 use lib.Seq.{length-take-le}
 use borrow.Author.Needs.{needs}
 use Rattle.endian.specs.Put.{put}
@@ -21,9 +20,6 @@ put-bytes-requires c κs =
     let a = c .before .before .before .args in
     omega (arith, length-take-le (a .m) (a .t3) (array-share-prefix-name (c .before)))
 
-same-length : tie.Need-same-length
-same-length c = search needs
-
 returns : tie.Need-returns
 unfolding nameBytes
 returns c =
@@ -35,4 +31,4 @@ returns c =
 pub write-name-spec : {M : Type 1} → statement M
 write-name-spec =
     tie.close
-    (tie.spec array-share-prefix-name slice-aggregate-put-bytes put-bytes-requires same-length returns)
+    (tie.spec array-share-prefix-name slice-aggregate-put-bytes put-bytes-requires (λ c. search needs) returns)

@@ -11,48 +11,6 @@ use borrow.Author.Needs.{needs}
 use Rattle.pieces.proofs.write_rule.Statement.{statement}
 use Rattle.pieces.proofs.write_rule.Tie as tie
 
-write-head-requires : tie.Need-write-head-requires
-write-head-requires c κs = search needs
-
-add-write-tests : tie.Need-add-write-tests
-add-write-tests c = search needs
-
-write-tests-requires : tie.Need-write-tests-requires
-write-tests-requires c κs = search needs
-
-add-write-assigns : tie.Need-add-write-assigns
-add-write-assigns c = search needs
-
-mul-write-assigns : tie.Need-mul-write-assigns
-mul-write-assigns c = search needs
-
-add-write-assigns-2 : tie.Need-add-write-assigns-2
-add-write-assigns-2 c = search needs
-
-write-assigns-requires : tie.Need-write-assigns-requires
-write-assigns-requires c κs = search needs
-
-add-write-name : tie.Need-add-write-name
-add-write-name c = search needs
-
-mul-write-name : tie.Need-mul-write-name
-mul-write-name c = search needs
-
-add-write-name-2 : tie.Need-add-write-name-2
-add-write-name-2 c = search needs
-
-mul-write-name-2 : tie.Need-mul-write-name-2
-mul-write-name-2 c = search needs
-
-add-write-name-3 : tie.Need-add-write-name-3
-add-write-name-3 c = search needs
-
-write-name-requires : tie.Need-write-name-requires
-write-name-requires c κs = search needs
-
-same-length : tie.Need-same-length
-same-length c = search needs
-
 returns : tie.Need-returns
 unfolding ruleBytes
 returns c =
@@ -83,18 +41,18 @@ pub write-rule-spec : {M : Type 1} → statement M
 write-rule-spec =
     tie.close
     (tie.spec
-    write-head-requires
-    add-write-tests
-    write-tests-requires
-    add-write-assigns
-    mul-write-assigns
-    add-write-assigns-2
-    write-assigns-requires
-    add-write-name
-    mul-write-name
-    add-write-name-2
-    mul-write-name-2
-    add-write-name-3
-    write-name-requires
-    same-length
+    (λ c κs. search needs)
+    (λ c. search needs)
+    (λ c κs. search needs)
+    (λ c. search needs)
+    (λ c. search needs)
+    (λ c. search needs)
+    (λ c κs. search needs)
+    (λ c. search needs)
+    (λ c. search needs)
+    (λ c. search needs)
+    (λ c. search needs)
+    (λ c. search needs)
+    (λ c κs. search needs)
+    (λ c. search needs)
     returns)

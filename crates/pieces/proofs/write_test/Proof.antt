@@ -13,18 +13,6 @@ use borrow.Author.Needs.{needs}
 use Rattle.pieces.proofs.write_test.Statement.{statement}
 use Rattle.pieces.proofs.write_test.Tie as tie
 
-put-4-requires : tie.Need-put-4-requires
-put-4-requires c κs = search needs
-
-add-put-i64 : tie.Need-add-put-i64
-add-put-i64 c = search needs
-
-put-i64-requires : tie.Need-put-i64-requires
-put-i64-requires c κs = search needs
-
-same-length : tie.Need-same-length
-same-length c = search needs
-
 returns : tie.Need-returns
 unfolding testBytes
 returns c =
@@ -39,4 +27,4 @@ returns c =
 
 pub write-test-spec : {M : Type 1} → statement M
 write-test-spec =
-    tie.close (tie.spec put-4-requires add-put-i64 put-i64-requires same-length returns)
+    tie.close (tie.spec (λ c κs. search needs) (λ c. search needs) (λ c κs. search needs) (λ c. search needs) returns)

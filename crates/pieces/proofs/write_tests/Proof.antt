@@ -23,27 +23,6 @@ loop-holds : tie.Need-loop-holds Inv-loop μ-loop
 unfolding testsBytes joined
 loop-holds c = (search needs, sym (put-nil (c .before .args .out .now) (c .before .args .at)), search needs)
 
-mul-write-test : tie.Need-mul-write-test Inv-loop μ-loop
-mul-write-test c = search needs
-
-add-write-test : tie.Need-add-write-test Inv-loop μ-loop
-add-write-test c = search needs
-
-mul-write-test-2 : tie.Need-mul-write-test-2 Inv-loop μ-loop
-mul-write-test-2 c = search needs
-
-array-copy-out-write-test : tie.Need-array-copy-out-write-test Inv-loop μ-loop
-array-copy-out-write-test c = search needs
-
-write-test-requires : tie.Need-write-test-requires Inv-loop μ-loop
-write-test-requires c κs = search needs
-
-add-j : tie.Need-add-j Inv-loop μ-loop
-add-j c = search needs
-
-loop-less : tie.Need-loop-less Inv-loop μ-loop
-loop-less c = search needs
-
 loop-again : tie.Need-loop-again Inv-loop μ-loop
 unfolding testsBytes
 loop-again c =
@@ -60,9 +39,6 @@ loop-again c =
       search needs,
     )
 
-same-length : tie.Need-same-length Inv-loop μ-loop
-same-length c = search needs
-
 returns : tie.Need-returns Inv-loop μ-loop
 returns c =
     let l = c .before in
@@ -77,13 +53,13 @@ write-tests-spec =
     Inv-loop
     μ-loop
     loop-holds
-    mul-write-test
-    add-write-test
-    mul-write-test-2
-    array-copy-out-write-test
-    write-test-requires
-    add-j
-    loop-less
+    (λ c. search needs)
+    (λ c. search needs)
+    (λ c. search needs)
+    (λ c. search needs)
+    (λ c κs. search needs)
+    (λ c. search needs)
+    (λ c. search needs)
     loop-again
-    same-length
+    (λ c. search needs)
     returns)

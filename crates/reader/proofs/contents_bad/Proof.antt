@@ -19,57 +19,12 @@ Inv-loop s n end₀ bad₀ i₀ end bad i =
 abbrev μ-loop : tie.MeasureT-loop
 μ-loop s n end₀ bad₀ i₀ end bad i = n - i
 
-mul-if1 : tie.Need-mul-if1 Inv-loop μ-loop
-mul-if1 c = search needs
-
-add-if1 : tie.Need-add-if1 Inv-loop μ-loop
-add-if1 c = search needs
-
 returns : tie.Need-returns Inv-loop μ-loop
 unfolding contentsBad
 returns c = rw (lt-ltb _ _ (c .if1 .taken))
 
-mul-end : tie.Need-mul-end Inv-loop μ-loop
-mul-end c = search needs
-
-add-end : tie.Need-add-end Inv-loop μ-loop
-add-end c = search needs
-
 loop-holds : tie.Need-loop-holds Inv-loop μ-loop
 loop-holds c = (search needs, refl, search needs, sought-none)
-
-mul-u16-at : tie.Need-mul-u16-at Inv-loop μ-loop
-mul-u16-at c = search needs
-
-add-u16-at : tie.Need-add-u16-at Inv-loop μ-loop
-add-u16-at c = search needs
-
-u16-at-requires : tie.Need-u16-at-requires Inv-loop μ-loop
-u16-at-requires c κs = search needs
-
-wide-requires : tie.Need-wide-requires Inv-loop μ-loop
-wide-requires c κs = search needs
-
-mul-u16-at-2 : tie.Need-mul-u16-at-2 Inv-loop μ-loop
-mul-u16-at-2 c = search needs
-
-add-u16-at-2 : tie.Need-add-u16-at-2 Inv-loop μ-loop
-add-u16-at-2 c = search needs
-
-u16-at-requires-2 : tie.Need-u16-at-requires-2 Inv-loop μ-loop
-u16-at-requires-2 c κs = search needs
-
-wide-requires-2 : tie.Need-wide-requires-2 Inv-loop μ-loop
-wide-requires-2 c κs = search needs
-
-add-end-2 : tie.Need-add-end-2 Inv-loop μ-loop
-add-end-2 c = search needs
-
-add-i : tie.Need-add-i Inv-loop μ-loop
-add-i c = search needs
-
-loop-less : tie.Need-loop-less Inv-loop μ-loop
-loop-less c = search needs
 
 loop-again : tie.Need-loop-again Inv-loop μ-loop
 loop-again c =
@@ -96,22 +51,22 @@ contents-bad-spec =
     (tie.spec
     Inv-loop
     μ-loop
-    mul-if1
-    add-if1
+    (λ c. search needs)
+    (λ c. search needs)
     returns
-    mul-end
-    add-end
+    (λ c. search needs)
+    (λ c. search needs)
     loop-holds
-    mul-u16-at
-    add-u16-at
-    u16-at-requires
-    wide-requires
-    mul-u16-at-2
-    add-u16-at-2
-    u16-at-requires-2
-    wide-requires-2
-    add-end-2
-    add-i
-    loop-less
+    (λ c. search needs)
+    (λ c. search needs)
+    (λ c κs. search needs)
+    (λ c κs. search needs)
+    (λ c. search needs)
+    (λ c. search needs)
+    (λ c κs. search needs)
+    (λ c κs. search needs)
+    (λ c. search needs)
+    (λ c. search needs)
+    (λ c. search needs)
     loop-again
     returns-2)

@@ -10,15 +10,9 @@ use borrow.Author.Needs.{needs}
 use Rattle.reader.proofs.read.Statement.{statement}
 use Rattle.reader.proofs.read.Tie as tie
 
-refused-requires : tie.Need-refused-requires
-refused-requires c κs = search needs
-
 returns : tie.Need-returns
 unfolding readOf
 returns c = rw (c .refused .ensures, lt-ltb _ _ (c .before .if1 .taken))
-
-refused-requires-2 : tie.Need-refused-requires-2
-refused-requires-2 c κs = search needs
 
 returns-2 : tie.Need-returns-2
 unfolding readOf
@@ -28,31 +22,10 @@ returns-2 c = rw (c .refused2 .ensures, le-ltb _ _ (c .before .before .if1 .left
 long : (c : tie.Else2) → lengthBad (c .before .before .before .args .book .now) ≡ false
 long c = rw (le-ltb _ _ (c .before .if1 .left), le-ltb _ _ (c .if2 .left))
 
-shared-slice-read-e : tie.Need-shared-slice-read-e
-shared-slice-read-e c = search needs
-
-shared-slice-read-n : tie.Need-shared-slice-read-n
-shared-slice-read-n c = search needs
-
-shared-slice-read-k : tie.Need-shared-slice-read-k
-shared-slice-read-k c = search needs
-
-shared-slice-read-z : tie.Need-shared-slice-read-z
-shared-slice-read-z c = search needs
-
-refused-requires-3 : tie.Need-refused-requires-3
-refused-requires-3 c κs = search needs
-
 returns-3 : tie.Need-returns-3
 unfolding readOf
 returns-3 c =
     rw (c .refused3 .ensures, long (c .before .before .before .before .before .before), c .before .if3 .taken)
-
-sizes-bad-requires : tie.Need-sizes-bad-requires
-sizes-bad-requires c κs = search needs
-
-refused-requires-4 : tie.Need-refused-requires-4
-refused-requires-4 c κs = search needs
 
 returns-4 : tie.Need-returns-4
 unfolding readOf
@@ -78,9 +51,6 @@ sizes c =
     let s = c .before .before .before .before .before .before .before .before .before .before .args .book .now in
     sized (nOf s) (kOf s) (sized-good c)
 
-count-requires : tie.Need-count-requires
-count-requires c κs = search needs
-
 contents-bad-requires : tie.Need-contents-bad-requires
 contents-bad-requires c κs = rw (c .count .ensures .0) (sizes (c .before) .rules)
 
@@ -90,9 +60,6 @@ contents : (c : tie.After-contents-bad) →
 contents c =
     let s = c .before .before .before .before .before .before .before .before .before .before .before .before .args .book .now in
     ap (contentsBad s) (sym (c .before .count .ensures .0)) ∙ sym (c .contents-bad .ensures)
-
-refused-requires-5 : tie.Need-refused-requires-5
-refused-requires-5 c κs = search needs
 
 returns-5 : tie.Need-returns-5
 unfolding readOf
@@ -130,22 +97,22 @@ pub read-spec : {M : Type 1} → statement M
 read-spec =
     tie.close
     (tie.spec
-    refused-requires
+    (λ c κs. search needs)
     returns
-    refused-requires-2
+    (λ c κs. search needs)
     returns-2
-    shared-slice-read-e
-    shared-slice-read-n
-    shared-slice-read-k
-    shared-slice-read-z
-    refused-requires-3
+    (λ c. search needs)
+    (λ c. search needs)
+    (λ c. search needs)
+    (λ c. search needs)
+    (λ c κs. search needs)
     returns-3
-    sizes-bad-requires
-    refused-requires-4
+    (λ c κs. search needs)
+    (λ c κs. search needs)
     returns-4
-    count-requires
+    (λ c κs. search needs)
     contents-bad-requires
-    refused-requires-5
+    (λ c κs. search needs)
     returns-5
     read-bodies-requires
     returns-6)

@@ -22,12 +22,6 @@ Inv-loop s n k out₀ i₀ i-end out i =
 abbrev μ-loop : tie.MeasureT-loop
 μ-loop s n k out₀ i₀ i-end out i = i-end - i
 
-no-rule-requires : tie.Need-no-rule-requires Inv-loop μ-loop
-no-rule-requires c κs = search needs
-
-count-requires : tie.Need-count-requires Inv-loop μ-loop
-count-requires c κs = search needs
-
 loop-holds : tie.Need-loop-holds Inv-loop μ-loop
 loop-holds c = (search needs, c .count .ensures .0, rw (c .before .no-rule .ensures), passed-none)
 
@@ -48,9 +42,6 @@ body-bad-requires c κs =
 cast-refused : tie.Need-cast-refused Inv-loop μ-loop
 cast-refused c =
     omega (arith, low (c .before .before), c .before .before .before .before .before .before .before .pre .3 .few, size (c .before .before))
-
-refused-requires : tie.Need-refused-requires Inv-loop μ-loop
-refused-requires c κs = search needs
 
 returns : tie.Need-returns Inv-loop μ-loop
 returns c =
@@ -93,9 +84,6 @@ cast-refused-2 : tie.Need-cast-refused-2 Inv-loop μ-loop
 cast-refused-2 c =
     omega (arith, low (c .before .before .before .before .before), c .before .before .before .before .before .before .before .before .before .before .pre .3 .few, size (c .before .before .before .before .before))
 
-refused-requires-2 : tie.Need-refused-requires-2 Inv-loop μ-loop
-refused-requires-2 c κs = search needs
-
 returns-2 : tie.Need-returns-2 Inv-loop μ-loop
 returns-2 c =
     let d = c .before .before .before .before .before .before in
@@ -111,12 +99,6 @@ mul-out c =
 array-set-from-out : tie.Need-array-set-from-out Inv-loop μ-loop
 array-set-from-out c =
     omega (arith, low (c .before .before .before .before .before), size (c .before .before .before .before .before), c .before .before .before .before .before .before .before .before .before .before .pre .3 .few)
-
-add-i : tie.Need-add-i Inv-loop μ-loop
-add-i c = search needs
-
-loop-less : tie.Need-loop-less Inv-loop μ-loop
-loop-less c = search needs
 
 loop-again : tie.Need-loop-again Inv-loop μ-loop
 loop-again c =
@@ -148,9 +130,6 @@ whole c =
 cyclic-requires : tie.Need-cyclic-requires Inv-loop μ-loop
 cyclic-requires c κs = c .before .before .before .before .before .pre .3 .few
 
-refused-requires-3 : tie.Need-refused-requires-3 Inv-loop μ-loop
-refused-requires-3 c κs = search needs
-
 returns-3 : tie.Need-returns-3 Inv-loop μ-loop
 returns-3 c =
     let d = c .before .before .before in
@@ -171,24 +150,24 @@ read-bodies-spec =
     (tie.spec
     Inv-loop
     μ-loop
-    no-rule-requires
-    count-requires
+    (λ c κs. search needs)
+    (λ c κs. search needs)
     loop-holds
     body-bad-requires
     cast-refused
-    refused-requires
+    (λ c κs. search needs)
     returns
     read-body-requires
     rule-number-requires
     cast-refused-2
-    refused-requires-2
+    (λ c κs. search needs)
     returns-2
     mul-out
     array-set-from-out
-    add-i
-    loop-less
+    (λ c. search needs)
+    (λ c. search needs)
     loop-again
     cyclic-requires
-    refused-requires-3
+    (λ c κs. search needs)
     returns-3
     returns-4)

@@ -16,15 +16,6 @@ use borrow.Author.Needs.{needs}
 use Rattle.rounds.proofs.reread.Statement.{statement}
 use Rattle.rounds.proofs.reread.Tie as tie
 
-write-requires : tie.Need-write-requires
-write-requires c κs = search needs
-
-no-table-requires : tie.Need-no-table-requires
-no-table-requires c κs = search needs
-
-same-length : tie.Need-same-length
-same-length c = search needs
-
 -- the number and the length that a write gives
 abbrev number : Written × List ℕ → ℕ
 number x = x .0 .number
@@ -61,12 +52,6 @@ slice-aggregate-read c =
     let w = c .before .before .before .before .before .write in
     sym (length-take-le (w .result .length) (w .last .1 .0) (fits (c .before)))
 
-read-requires : tie.Need-read-requires
-read-requires c κs = search needs
-
-same-length-2 : tie.Need-same-length-2
-same-length-2 c = search needs
-
 returns-2 : tie.Need-returns-2
 returns-2 c =
     let i = c .before .before in
@@ -81,12 +66,12 @@ pub reread-spec : {M : Type 1} → statement M
 reread-spec =
     tie.close
     (tie.spec
-    write-requires
-    no-table-requires
-    same-length
+    (λ c κs. search needs)
+    (λ c κs. search needs)
+    (λ c. search needs)
     returns
     slice-reshare-prefix-read
     slice-aggregate-read
-    read-requires
-    same-length-2
+    (λ c κs. search needs)
+    (λ c. search needs)
     returns-2)

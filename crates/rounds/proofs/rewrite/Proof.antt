@@ -9,9 +9,6 @@ use borrow.Author.Needs.{needs}
 use Rattle.rounds.proofs.rewrite.Statement.{statement}
 use Rattle.rounds.proofs.rewrite.Tie as tie
 
-read-requires : tie.Need-read-requires
-read-requires c κs = search needs
-
 returns : tie.Need-returns
 returns c =
     let r = c .before .before in
@@ -19,12 +16,6 @@ returns c =
     let e = r .read .ensures in
     sym (rewrite-refused (a .book .now) (a .out .now) (λ z. c .if1 .taken (ap (λ (x : Reading). x .number) e ∙ z))
     ∙ ap (λ (x : Reading). (written (x .number) (x .place) 0, a .out .now)) (sym e))
-
-write-requires : tie.Need-write-requires
-write-requires c κs = search needs
-
-same-length : tie.Need-same-length
-same-length c = search needs
 
 returns-2 : tie.Need-returns-2
 returns-2 c =
@@ -40,4 +31,4 @@ returns-2 c =
     ∙ rewrite-done (a .book .now) (a .out .now) b (sym (ap (λ (x : Reading). x .number) e) ∙ i .if1 .left))
 
 pub rewrite-spec : {M : Type 1} → statement M
-rewrite-spec = tie.close (tie.spec read-requires returns write-requires same-length returns-2)
+rewrite-spec = tie.close (tie.spec (λ c κs. search needs) returns (λ c κs. search needs) (λ c. search needs) returns-2)

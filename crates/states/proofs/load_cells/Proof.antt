@@ -19,24 +19,6 @@ abbrev μ-loop : tie.MeasureT-loop
 loop-holds : tie.Need-loop-holds Inv-loop μ-loop
 loop-holds c = (search needs, refl)
 
-mul-i64-at : tie.Need-mul-i64-at Inv-loop μ-loop
-mul-i64-at c = search needs
-
-i64-at-requires : tie.Need-i64-at-requires Inv-loop μ-loop
-i64-at-requires c κs = search needs
-
-mul-cells : tie.Need-mul-cells Inv-loop μ-loop
-mul-cells c = search needs
-
-array-set-from-cells : tie.Need-array-set-from-cells Inv-loop μ-loop
-array-set-from-cells c = search needs
-
-add-i : tie.Need-add-i Inv-loop μ-loop
-add-i c = search needs
-
-loop-less : tie.Need-loop-less Inv-loop μ-loop
-loop-less c = search needs
-
 loop-again : tie.Need-loop-again Inv-loop μ-loop
 loop-again c =
     let l = c .before .before .loop in
@@ -60,11 +42,11 @@ load-cells-spec =
     Inv-loop
     μ-loop
     loop-holds
-    mul-i64-at
-    i64-at-requires
-    mul-cells
-    array-set-from-cells
-    add-i
-    loop-less
+    (λ c. search needs)
+    (λ c κs. search needs)
+    (λ c. search needs)
+    (λ c. search needs)
+    (λ c. search needs)
+    (λ c. search needs)
     loop-again
     returns)

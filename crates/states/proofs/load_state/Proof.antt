@@ -4,15 +4,6 @@ use Rattle.states.specs.States.{stateFrom}
 use Rattle.states.proofs.load_state.Statement.{statement}
 use Rattle.states.proofs.load_state.Tie as tie
 
-load-cells-requires : tie.Need-load-cells-requires
-load-cells-requires c κs = search needs
-
-u32-at-requires : tie.Need-u32-at-requires
-u32-at-requires c κs = search needs
-
-u32-at-requires-2 : tie.Need-u32-at-requires-2
-u32-at-requires-2 c κs = search needs
-
 returns : tie.Need-returns
 unfolding stateFrom
 returns c =
@@ -21,4 +12,4 @@ returns c =
 
 pub load-state-spec : {M : Type 1} → statement M
 load-state-spec =
-    tie.close (tie.spec load-cells-requires u32-at-requires u32-at-requires-2 returns)
+    tie.close (tie.spec (λ c κs. search needs) (λ c κs. search needs) (λ c κs. search needs) returns)

@@ -25,24 +25,6 @@ loop-holds : tie.Need-loop-holds Inv-loop μ-loop
 unfolding cellsBytes joined
 loop-holds c = (search needs, sym (put-nil (c .before .args .out .now) 0), search needs)
 
-mul-put-i64 : tie.Need-mul-put-i64 Inv-loop μ-loop
-mul-put-i64 c = search needs
-
-mul-put-i64-2 : tie.Need-mul-put-i64-2 Inv-loop μ-loop
-mul-put-i64-2 c = search needs
-
-array-copy-out-put-i64 : tie.Need-array-copy-out-put-i64 Inv-loop μ-loop
-array-copy-out-put-i64 c = search needs
-
-put-i64-requires : tie.Need-put-i64-requires Inv-loop μ-loop
-put-i64-requires c κs = search needs
-
-add-i : tie.Need-add-i Inv-loop μ-loop
-add-i c = search needs
-
-loop-less : tie.Need-loop-less Inv-loop μ-loop
-loop-less c = search needs
-
 loop-again : tie.Need-loop-again Inv-loop μ-loop
 loop-again c =
     let d = c .before .before in
@@ -59,9 +41,6 @@ loop-again c =
       search needs,
     )
 
-same-length : tie.Need-same-length Inv-loop μ-loop
-same-length c = search needs
-
 returns : tie.Need-returns Inv-loop μ-loop
 returns c =
     let l = c .before in
@@ -76,12 +55,12 @@ put-cells-spec =
     Inv-loop
     μ-loop
     loop-holds
-    mul-put-i64
-    mul-put-i64-2
-    array-copy-out-put-i64
-    put-i64-requires
-    add-i
-    loop-less
+    (λ c. search needs)
+    (λ c. search needs)
+    (λ c. search needs)
+    (λ c κs. search needs)
+    (λ c. search needs)
+    (λ c. search needs)
     loop-again
-    same-length
+    (λ c. search needs)
     returns)

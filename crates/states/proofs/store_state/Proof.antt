@@ -11,15 +11,6 @@ use Rattle.states.specs.StatesLaws.{length-cells, length-state}
 use Rattle.states.proofs.store_state.Statement.{statement}
 use Rattle.states.proofs.store_state.Tie as tie
 
-put-cells-requires : tie.Need-put-cells-requires
-put-cells-requires c κs = search needs
-
-put-u32-requires : tie.Need-put-u32-requires
-put-u32-requires c κs = search needs
-
-put-u32-requires-2 : tie.Need-put-u32-requires-2
-put-u32-requires-2 c κs = search needs
-
 returns : tie.Need-returns
 unfolding stateBytes
 returns c =
@@ -40,4 +31,4 @@ returns c =
 
 pub store-state-spec : {M : Type 1} → statement M
 store-state-spec =
-    tie.close (tie.spec put-cells-requires put-u32-requires put-u32-requires-2 returns)
+    tie.close (tie.spec (λ c κs. search needs) (λ c κs. search needs) (λ c κs. search needs) returns)

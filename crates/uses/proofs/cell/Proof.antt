@@ -7,12 +7,6 @@ use borrow.Author.Needs.{needs}
 use Rattle.uses.proofs.cell.Statement.{statement}
 use Rattle.uses.proofs.cell.Tie as tie
 
-count-requires : tie.Need-count-requires
-count-requires c κs = search needs
-
-with-requires : tie.Need-with-requires
-with-requires c κs = search needs
-
 returns : tie.Need-returns
 returns c =
     let a = c .before .before .before .args .c in
@@ -22,4 +16,4 @@ returns-2 : tie.Need-returns-2
 returns-2 c = λ x. has-zero x ∙ high (c .before .args .c) (c .if1 .left) x
 
 pub cell-spec : {M : Type 1} → statement M
-cell-spec = tie.close (tie.spec count-requires with-requires returns returns-2)
+cell-spec = tie.close (tie.spec (λ c κs. search needs) (λ c κs. search needs) returns returns-2)

@@ -11,18 +11,6 @@ use borrow.Author.Needs.{needs}
 use Rattle.uses.proofs.reads.Statement.{statement}
 use Rattle.uses.proofs.reads.Tie as tie
 
-count-requires : tie.Need-count-requires
-count-requires c κs = search needs
-
-tests-read-requires : tie.Need-tests-read-requires
-tests-read-requires c κs = search needs
-
-count-requires-2 : tie.Need-count-requires-2
-count-requires-2 c κs = search needs
-
-sides-read-requires : tie.Need-sides-read-requires
-sides-read-requires c κs = search needs
-
 returns : tie.Need-returns
 unfolding reads
 returns c =
@@ -40,4 +28,4 @@ returns c =
 pub reads-spec : {M : Type 1} → statement M
 reads-spec =
     tie.close
-    (tie.spec count-requires tests-read-requires count-requires-2 sides-read-requires returns)
+    (tie.spec (λ c κs. search needs) (λ c κs. search needs) (λ c κs. search needs) (λ c κs. search needs) returns)

@@ -9,18 +9,6 @@ use borrow.Author.Needs.{needs}
 use Rattle.uses.proofs.side_reads.Statement.{statement}
 use Rattle.uses.proofs.side_reads.Tie as tie
 
-cell-requires : tie.Need-cell-requires
-cell-requires c κs = search needs
-
-kept-requires : tie.Need-kept-requires
-kept-requires c κs = search needs
-
-cell-requires-2 : tie.Need-cell-requires-2
-cell-requires-2 c κs = search needs
-
-kept-requires-2 : tie.Need-kept-requires-2
-kept-requires-2 c κs = search needs
-
 returns : tie.Need-returns
 returns c =
     let s = c .before .before .before .before .args .s in
@@ -32,4 +20,4 @@ returns c =
 
 pub side-reads-spec : {M : Type 1} → statement M
 side-reads-spec =
-    tie.close (tie.spec cell-requires kept-requires cell-requires-2 kept-requires-2 returns)
+    tie.close (tie.spec (λ c κs. search needs) (λ c κs. search needs) (λ c κs. search needs) (λ c κs. search needs) returns)

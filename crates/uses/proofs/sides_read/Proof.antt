@@ -19,21 +19,6 @@ abbrev μ-loop : tie.MeasureT-loop
 loop-holds : tie.Need-loop-holds Inv-loop μ-loop
 loop-holds c = (search needs, joined-none)
 
-mul-side-reads : tie.Need-mul-side-reads Inv-loop μ-loop
-mul-side-reads c = search needs
-
-array-copy-out-side-reads : tie.Need-array-copy-out-side-reads Inv-loop μ-loop
-array-copy-out-side-reads c = search needs
-
-side-reads-requires : tie.Need-side-reads-requires Inv-loop μ-loop
-side-reads-requires c κs = search needs
-
-add-j : tie.Need-add-j Inv-loop μ-loop
-add-j c = search needs
-
-loop-less : tie.Need-loop-less Inv-loop μ-loop
-loop-less c = search needs
-
 loop-again : tie.Need-loop-again Inv-loop μ-loop
 loop-again c =
     (search needs, joined-more (c .before .before .before .loop .inv .1) (c .side-reads .result) (c .side-reads .ensures))
@@ -48,10 +33,10 @@ sides-read-spec =
     Inv-loop
     μ-loop
     loop-holds
-    mul-side-reads
-    array-copy-out-side-reads
-    side-reads-requires
-    add-j
-    loop-less
+    (λ c. search needs)
+    (λ c. search needs)
+    (λ c κs. search needs)
+    (λ c. search needs)
+    (λ c. search needs)
     loop-again
     returns)

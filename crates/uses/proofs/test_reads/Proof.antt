@@ -8,15 +8,6 @@ use borrow.Author.Needs.{needs}
 use Rattle.uses.proofs.test_reads.Statement.{statement}
 use Rattle.uses.proofs.test_reads.Tie as tie
 
-cell-requires : tie.Need-cell-requires
-cell-requires c κs = search needs
-
-cell-requires-2 : tie.Need-cell-requires-2
-cell-requires-2 c κs = search needs
-
-kept-requires : tie.Need-kept-requires
-kept-requires c κs = search needs
-
 returns : tie.Need-returns
 returns c =
     let t = c .before .before .before .before .args .t in
@@ -27,4 +18,4 @@ returns c =
     ∙ out (ltb x 32) (eqb x (t .left)) (eqb (t .kind) 1) (eqb x (t .right))
 
 pub test-reads-spec : {M : Type 1} → statement M
-test-reads-spec = tie.close (tie.spec cell-requires cell-requires-2 kept-requires returns)
+test-reads-spec = tie.close (tie.spec (λ c κs. search needs) (λ c κs. search needs) (λ c κs. search needs) returns)

@@ -19,21 +19,6 @@ abbrev μ-loop : tie.MeasureT-loop
 loop-holds : tie.Need-loop-holds Inv-loop μ-loop
 loop-holds c = (search needs, joined-none)
 
-mul-test-reads : tie.Need-mul-test-reads Inv-loop μ-loop
-mul-test-reads c = search needs
-
-array-copy-out-test-reads : tie.Need-array-copy-out-test-reads Inv-loop μ-loop
-array-copy-out-test-reads c = search needs
-
-test-reads-requires : tie.Need-test-reads-requires Inv-loop μ-loop
-test-reads-requires c κs = search needs
-
-add-j : tie.Need-add-j Inv-loop μ-loop
-add-j c = search needs
-
-loop-less : tie.Need-loop-less Inv-loop μ-loop
-loop-less c = search needs
-
 loop-again : tie.Need-loop-again Inv-loop μ-loop
 loop-again c =
     (search needs, joined-more (c .before .before .before .loop .inv .1) (c .test-reads .result) (c .test-reads .ensures))
@@ -48,10 +33,10 @@ tests-read-spec =
     Inv-loop
     μ-loop
     loop-holds
-    mul-test-reads
-    array-copy-out-test-reads
-    test-reads-requires
-    add-j
-    loop-less
+    (λ c. search needs)
+    (λ c. search needs)
+    (λ c κs. search needs)
+    (λ c. search needs)
+    (λ c. search needs)
     loop-again
     returns)

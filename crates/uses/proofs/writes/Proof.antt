@@ -7,12 +7,6 @@ use borrow.Author.Needs.{needs}
 use Rattle.uses.proofs.writes.Statement.{statement}
 use Rattle.uses.proofs.writes.Tie as tie
 
-count-requires : tie.Need-count-requires
-count-requires c κs = search needs
-
-targets-requires : tie.Need-targets-requires
-targets-requires c κs = search needs
-
 returns : tie.Need-returns
 unfolding writes
 returns c =
@@ -20,4 +14,4 @@ returns c =
     λ x. c .targets .ensures x ∙ rw (c .before .count .ensures .0) (out-some (ltb x 32) (r .a) (λ j. eqb x (assignAt r j .target)))
 
 pub writes-spec : {M : Type 1} → statement M
-writes-spec = tie.close (tie.spec count-requires targets-requires returns)
+writes-spec = tie.close (tie.spec (λ c κs. search needs) (λ c κs. search needs) returns)

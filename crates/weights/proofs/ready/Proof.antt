@@ -23,18 +23,6 @@ abbrev μ-loop : tie.MeasureT-loop
 loop-holds : tie.Need-loop-holds Inv-loop μ-loop
 loop-holds c = (search needs, search needs, λ y l e. absurd (not-suc-le-zero l))
 
-has-requires : tie.Need-has-requires Inv-loop μ-loop
-has-requires c κs = search needs
-
-mul-meets : tie.Need-mul-meets Inv-loop μ-loop
-mul-meets c = search needs
-
-array-read-meets : tie.Need-array-read-meets Inv-loop μ-loop
-array-read-meets c = search needs
-
-meets-requires : tie.Need-meets-requires Inv-loop μ-loop
-meets-requires c κs = search needs
-
 returns : tie.Need-returns Inv-loop μ-loop
 returns c =
     record {
@@ -45,12 +33,6 @@ returns c =
       passed = c .before .before .before .before .before .loop .inv .2;
       bound = omega arith;
     }
-
-add-x : tie.Need-add-x Inv-loop μ-loop
-add-x c = search needs
-
-loop-less : tie.Need-loop-less Inv-loop μ-loop
-loop-less c = search needs
 
 loop-again : tie.Need-loop-again Inv-loop μ-loop
 loop-again c = (
@@ -77,12 +59,12 @@ ready-spec =
     Inv-loop
     μ-loop
     loop-holds
-    has-requires
-    mul-meets
-    array-read-meets
-    meets-requires
+    (λ c κs. search needs)
+    (λ c. search needs)
+    (λ c. search needs)
+    (λ c κs. search needs)
     returns
-    add-x
-    loop-less
+    (λ c. search needs)
+    (λ c. search needs)
     loop-again
     returns-2)

@@ -31,15 +31,6 @@ loop-holds : tie.Need-loop-holds Inv-loop μ-loop
 unfolding total
 loop-holds c = (search needs, search needs, refl, c .pre)
 
-has-requires : tie.Need-has-requires Inv-loop μ-loop
-has-requires c κs = search needs
-
-mul-t : tie.Need-mul-t Inv-loop μ-loop
-mul-t c = search needs
-
-array-read-t : tie.Need-array-read-t Inv-loop μ-loop
-array-read-t c = search needs
-
 add-t : tie.Need-add-t Inv-loop μ-loop
 add-t c =
     let at-loop = c .before .before .before .loop in
@@ -50,12 +41,6 @@ add-t c =
       total-le (at-loop .x) (c .before .before .before .before .args .m) (at w),
       whole-at 32 (at w) (at-loop .x) (c .before .before .loop-test .taken),
     )
-
-add-x : tie.Need-add-x Inv-loop μ-loop
-add-x c = search needs
-
-loop-less : tie.Need-loop-less Inv-loop μ-loop
-loop-less c = search needs
 
 loop-again : tie.Need-loop-again Inv-loop μ-loop
 loop-again c =
@@ -85,11 +70,11 @@ total-spec =
     Inv-loop
     μ-loop
     loop-holds
-    has-requires
-    mul-t
-    array-read-t
+    (λ c κs. search needs)
+    (λ c. search needs)
+    (λ c. search needs)
     add-t
-    add-x
-    loop-less
+    (λ c. search needs)
+    (λ c. search needs)
     loop-again
     returns)

@@ -14,33 +14,9 @@ Inv-loop n rules end₀ i₀ end i = (i ≤ n) × (n ≤ 32) × (end ≡ startAt
 abbrev μ-loop : tie.MeasureT-loop
 μ-loop n rules end₀ i₀ end i = n - i
 
-mul-end : tie.Need-mul-end Inv-loop μ-loop
-mul-end c = search needs
-
-add-end : tie.Need-add-end Inv-loop μ-loop
-add-end c = search needs
-
 loop-holds : tie.Need-loop-holds Inv-loop μ-loop
 unfolding startAt
 loop-holds c = (search needs, search needs, refl, omega arith)
-
-mul-body-size : tie.Need-mul-body-size Inv-loop μ-loop
-mul-body-size c = search needs
-
-array-copy-out-body-size : tie.Need-array-copy-out-body-size Inv-loop μ-loop
-array-copy-out-body-size c = search needs
-
-body-size-requires : tie.Need-body-size-requires Inv-loop μ-loop
-body-size-requires c κs = search needs
-
-add-end-2 : tie.Need-add-end-2 Inv-loop μ-loop
-add-end-2 c = search needs
-
-add-i : tie.Need-add-i Inv-loop μ-loop
-add-i c = search needs
-
-loop-less : tie.Need-loop-less Inv-loop μ-loop
-loop-less c = search needs
 
 loop-again : tie.Need-loop-again Inv-loop μ-loop
 loop-again c =
@@ -60,14 +36,14 @@ end-of-spec =
     (tie.spec
     Inv-loop
     μ-loop
-    mul-end
-    add-end
+    (λ c. search needs)
+    (λ c. search needs)
     loop-holds
-    mul-body-size
-    array-copy-out-body-size
-    body-size-requires
-    add-end-2
-    add-i
-    loop-less
+    (λ c. search needs)
+    (λ c. search needs)
+    (λ c κs. search needs)
+    (λ c. search needs)
+    (λ c. search needs)
+    (λ c. search needs)
     loop-again
     returns)

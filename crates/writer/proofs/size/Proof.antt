@@ -13,9 +13,6 @@ use borrow.Author.Needs.{needs}
 use Rattle.writer.proofs.size.Statement.{statement}
 use Rattle.writer.proofs.size.Tie as tie
 
-check-requires : tie.Need-check-requires
-check-requires c κs = search needs
-
 returns : tie.Need-returns
 returns c =
     let k = c .before .before in
@@ -25,9 +22,6 @@ returns c =
 
 zero-number : (c : tie.Else1) → checkOf (c .before .before .before .args .t) .number ≡ 0
 zero-number c = sym (ap (λ (a : Answer). a .number) (c .before .before .check .ensures)) ∙ c .if1 .left
-
-count-requires : tie.Need-count-requires
-count-requires c κs = search needs
 
 end-of-requires : tie.Need-end-of-requires
 end-of-requires c κs =
@@ -44,4 +38,4 @@ returns-2 c =
     ∙ sym (size-done t (zero-number d))
 
 pub size-spec : {M : Type 1} → statement M
-size-spec = tie.close (tie.spec check-requires returns count-requires end-of-requires returns-2)
+size-spec = tie.close (tie.spec (λ c κs. search needs) returns (λ c κs. search needs) end-of-requires returns-2)

@@ -17,9 +17,6 @@ use borrow.Author.Needs.{needs}
 use Rattle.writer.proofs.write.Statement.{statement}
 use Rattle.writer.proofs.write.Tie as tie
 
-size-requires : tie.Need-size-requires
-size-requires c κs = search needs
-
 -- the number that was tested is that of the checks
 number-is : (c : tie.After-size) → c .size .result .number ≡ checkOf (c .before .before .args .t) .number
 number-is c = ap (λ (w : Written). w .number) (c .size .ensures) ∙ size-number (c .before .before .args .t)
@@ -50,9 +47,6 @@ returns-2 c =
     let d = c .before .before in
     let a = d .before .before .before .before .args in
     sym (write-short (a .t) (a .out .now) (none d) (omega (arith, c .if2 .taken, size-is d)))
-
-count-requires : tie.Need-count-requires
-count-requires c κs = search needs
 
 rules-ready : (c : tie.After-count) → Ready (c .count .result) (T (c .before .before .before) .rules)
 rules-ready c =
@@ -91,9 +85,6 @@ write-bodies-requires c κs =
     let n = p .before .before .before in
     (rules-ready n, omega (arith, enough n, w .write-contents .kept .0, p .put-4 .kept .0))
 
-same-length : tie.Need-same-length
-same-length c = search needs
-
 returns-3 : tie.Need-returns-3
 returns-3 c =
     let b = c .before .before in
@@ -116,12 +107,12 @@ pub write-spec : {M : Type 1} → statement M
 write-spec =
     tie.close
     (tie.spec
-    size-requires
+    (λ c κs. search needs)
     returns
     returns-2
-    count-requires
+    (λ c κs. search needs)
     put-4-requires
     write-contents-requires
     write-bodies-requires
-    same-length
+    (λ c. search needs)
     returns-3)

@@ -52,19 +52,10 @@ write-body-requires c κs =
     let l = t .before .loop in
     (t .before .before .before .pre .0 .counts (l .i) (t .loop-test .taken), inside t)
 
-body-size-requires : tie.Need-body-size-requires Inv-loop μ-loop
-body-size-requires c κs = search needs
-
 add-at-2 : tie.Need-add-at-2 Inv-loop μ-loop
 add-at-2 c =
     let t = c .before .before .before .before .before .before in
     omega (arith, inside t, c .body-size .ensures .0)
-
-add-i : tie.Need-add-i Inv-loop μ-loop
-add-i c = search needs
-
-loop-less : tie.Need-loop-less Inv-loop μ-loop
-loop-less c = search needs
 
 loop-again : tie.Need-loop-again Inv-loop μ-loop
 unfolding bodiesBytes
@@ -86,9 +77,6 @@ loop-again c =
       search needs,
     )
 
-same-length : tie.Need-same-length Inv-loop μ-loop
-same-length c = search needs
-
 returns : tie.Need-returns Inv-loop μ-loop
 returns c =
     let l = c .before .loop in
@@ -108,10 +96,10 @@ write-bodies-spec =
     mul-r
     array-copy-out-r
     write-body-requires
-    body-size-requires
+    (λ c κs. search needs)
     add-at-2
-    add-i
-    loop-less
+    (λ c. search needs)
+    (λ c. search needs)
     loop-again
-    same-length
+    (λ c. search needs)
     returns)

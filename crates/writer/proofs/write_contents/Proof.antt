@@ -20,12 +20,6 @@ Inv-loop out₀ n rules start₀ i₀ out start i =
 abbrev μ-loop : tie.MeasureT-loop
 μ-loop out₀ n rules start₀ i₀ out start i = n - i
 
-mul-start : tie.Need-mul-start Inv-loop μ-loop
-mul-start c = search needs
-
-add-start : tie.Need-add-start Inv-loop μ-loop
-add-start c = search needs
-
 loop-holds : tie.Need-loop-holds Inv-loop μ-loop
 unfolding startAt contentsBytes joined
 loop-holds c = (search needs, refl, sym (put-nil (c .before .args .out .now) 4), search needs)
@@ -44,15 +38,6 @@ mul-body-size c = omega (arith, c .before .before .before .pre .0 .few)
 array-copy-out-body-size : tie.Need-array-copy-out-body-size Inv-loop μ-loop
 array-copy-out-body-size c = omega (arith, c .before .before .before .pre .0 .few)
 
-body-size-requires : tie.Need-body-size-requires Inv-loop μ-loop
-body-size-requires c κs = search needs
-
-mul-write-entry : tie.Need-mul-write-entry Inv-loop μ-loop
-mul-write-entry c = search needs
-
-add-write-entry : tie.Need-add-write-entry Inv-loop μ-loop
-add-write-entry c = search needs
-
 write-entry-requires : tie.Need-write-entry-requires Inv-loop μ-loop
 write-entry-requires c κs =
     let b = c .before in
@@ -64,12 +49,6 @@ add-start-2 : tie.Need-add-start-2 Inv-loop μ-loop
 add-start-2 c =
     let b = c .before .before .before .before in
     omega (arith, most (b .before .before), b .body-size .ensures .1)
-
-add-i : tie.Need-add-i Inv-loop μ-loop
-add-i c = search needs
-
-loop-less : tie.Need-loop-less Inv-loop μ-loop
-loop-less c = search needs
 
 loop-again : tie.Need-loop-again Inv-loop μ-loop
 unfolding contentsBytes entryBytes
@@ -92,9 +71,6 @@ loop-again c =
       search needs,
     )
 
-same-length : tie.Need-same-length Inv-loop μ-loop
-same-length c = search needs
-
 returns : tie.Need-returns Inv-loop μ-loop
 returns c =
     let l = c .before .loop in
@@ -108,18 +84,18 @@ write-contents-spec =
     (tie.spec
     Inv-loop
     μ-loop
-    mul-start
-    add-start
+    (λ c. search needs)
+    (λ c. search needs)
     loop-holds
     mul-body-size
     array-copy-out-body-size
-    body-size-requires
-    mul-write-entry
-    add-write-entry
+    (λ c κs. search needs)
+    (λ c. search needs)
+    (λ c. search needs)
     write-entry-requires
     add-start-2
-    add-i
-    loop-less
+    (λ c. search needs)
+    (λ c. search needs)
     loop-again
-    same-length
+    (λ c. search needs)
     returns)

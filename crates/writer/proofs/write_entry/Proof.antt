@@ -7,24 +7,6 @@ use borrow.Author.Needs.{needs}
 use Rattle.writer.proofs.write_entry.Statement.{statement}
 use Rattle.writer.proofs.write_entry.Tie as tie
 
-cast-put-u16 : tie.Need-cast-put-u16
-cast-put-u16 c = search needs
-
-put-u16-requires : tie.Need-put-u16-requires
-put-u16-requires c κs = search needs
-
-add-put-u16 : tie.Need-add-put-u16
-add-put-u16 c = search needs
-
-cast-put-u16-2 : tie.Need-cast-put-u16-2
-cast-put-u16-2 c = search needs
-
-put-u16-requires-2 : tie.Need-put-u16-requires-2
-put-u16-requires-2 c κs = search needs
-
-same-length : tie.Need-same-length
-same-length c = search needs
-
 returns : tie.Need-returns
 returns c =
     let d = c .before .before in
@@ -38,10 +20,10 @@ pub write-entry-spec : {M : Type 1} → statement M
 write-entry-spec =
     tie.close
     (tie.spec
-    cast-put-u16
-    put-u16-requires
-    add-put-u16
-    cast-put-u16-2
-    put-u16-requires-2
-    same-length
+    (λ c. search needs)
+    (λ c κs. search needs)
+    (λ c. search needs)
+    (λ c. search needs)
+    (λ c κs. search needs)
+    (λ c. search needs)
     returns)

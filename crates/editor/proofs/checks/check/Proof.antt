@@ -11,12 +11,6 @@ returns : tie.Need-returns
 unfolding checkRows
 returns c = record { is = rw (lt-ltb 32 _ (c .if1 .taken)); named = λ e. absurd (omega arith) }
 
-first-beyond-requires : tie.Need-first-beyond-requires
-first-beyond-requires c κs = search needs
-
-cast-t5 : tie.Need-cast-t5
-cast-t5 c = search needs
-
 returns-2 : tie.Need-returns-2
 unfolding checkRows
 returns-2 c =
@@ -26,9 +20,6 @@ returns-2 c =
       is = rw (le-ltb 32 (m .n) (c .before .before .if1 .left), sym e, lt-ltb _ (m .n) (c .if2 .taken));
       named = λ z. absurd (omega arith);
     }
-
-cyclic-requires : tie.Need-cyclic-requires
-cyclic-requires c κs = search needs
 
 returns-3 : tie.Need-returns-3
 unfolding checkRows
@@ -65,4 +56,4 @@ returns-4 c =
 pub check-spec : {M : Type 1} → statement M
 check-spec =
     tie.close
-    (tie.spec returns first-beyond-requires cast-t5 returns-2 cyclic-requires returns-3 returns-4)
+    (tie.spec returns (λ c κs. search needs) (λ c. search needs) returns-2 (λ c κs. search needs) returns-3 returns-4)

@@ -10,18 +10,6 @@ use Rattle.editor.specs.Rows.{cyclic}
 use Rattle.editor.proofs.checks.cyclic.Statement.{statement}
 use Rattle.editor.proofs.checks.cyclic.Tie as tie
 
-closure-requires : tie.Need-closure-requires
-closure-requires c κs = search needs
-
-loops-requires : tie.Need-loops-requires
-loops-requires c κs = search needs
-
-below-requires : tie.Need-below-requires
-below-requires c κs = search needs
-
-meets-requires : tie.Need-meets-requires
-meets-requires c κs = search needs
-
 returns : tie.Need-returns
 unfolding cyclic meet
 returns c =
@@ -35,4 +23,4 @@ returns c =
     ∙ some-below 32 (m .n) (λ i. leads (m .precedes) (m .n) i i) (s .pre)
 
 pub cyclic-spec : {M : Type 1} → statement M
-cyclic-spec = tie.close (tie.spec closure-requires loops-requires below-requires meets-requires returns)
+cyclic-spec = tie.close (tie.spec (λ c κs. search needs) (λ c κs. search needs) (λ c κs. search needs) (λ c κs. search needs) returns)

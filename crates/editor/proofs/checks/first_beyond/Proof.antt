@@ -28,18 +28,6 @@ abbrev μ-loop : tie.MeasureT-loop
 loop-holds : tie.Need-loop-holds Inv-loop μ-loop
 loop-holds c = (search needs, c .before .pre, record { passed = passed-none; named = λ x l. absurd (omega (arith, l)) })
 
-mul-bits : tie.Need-mul-bits Inv-loop μ-loop
-mul-bits c = search needs
-
-array-read-bits : tie.Need-array-read-bits Inv-loop μ-loop
-array-read-bits c = search needs
-
-bits-requires : tie.Need-bits-requires Inv-loop μ-loop
-bits-requires c κs = search needs
-
-beyond-requires : tie.Need-beyond-requires Inv-loop μ-loop
-beyond-requires c κs = search needs
-
 returns : tie.Need-returns Inv-loop μ-loop
 unfolding firstBeyond
 returns c =
@@ -51,12 +39,6 @@ returns c =
           (ap (λ (x : ℕ). beyond x (m .n)) (sym e) ∙ sym (c .before .beyond .ensures) ∙ c .if1 .taken);
       named = at .inv .2 .named;
     }
-
-add-i : tie.Need-add-i Inv-loop μ-loop
-add-i c = search needs
-
-loop-less : tie.Need-loop-less Inv-loop μ-loop
-loop-less c = search needs
 
 loop-again : tie.Need-loop-again Inv-loop μ-loop
 loop-again c =
@@ -87,12 +69,12 @@ first-beyond-spec =
     Inv-loop
     μ-loop
     loop-holds
-    mul-bits
-    array-read-bits
-    bits-requires
-    beyond-requires
+    (λ c. search needs)
+    (λ c. search needs)
+    (λ c κs. search needs)
+    (λ c κs. search needs)
     returns
-    add-i
-    loop-less
+    (λ c. search needs)
+    (λ c. search needs)
     loop-again
     returns-2)

@@ -26,18 +26,9 @@ row-requires c κs =
     let inv = c .before .loop .inv in
     record { few = omega arith; present = omega arith; here = inv .3; filled = inv .4 }
 
-sub-at : tie.Need-sub-at Inv-loop μ-loop
-sub-at c = omega arith
-
 add-at : tie.Need-add-at Inv-loop μ-loop
 add-at c =
     omega (arith, c .before .before .loop .inv, start-mono (c .before .before .loop .i) 31 (omega arith), start-all)
-
-add-i : tie.Need-add-i Inv-loop μ-loop
-add-i c = search needs
-
-loop-less : tie.Need-loop-less Inv-loop μ-loop
-loop-less c = search needs
 
 loop-again : tie.Need-loop-again Inv-loop μ-loop
 loop-again c =
@@ -64,9 +55,9 @@ filled-spec =
     μ-loop
     loop-holds
     row-requires
-    sub-at
+    (λ c. omega arith)
     add-at
-    add-i
-    loop-less
+    (λ c. search needs)
+    (λ c. search needs)
     loop-again
     returns)

@@ -7,9 +7,6 @@ use borrow.Author.Needs.{needs}
 use Rattle.judging.proofs.marks.first_failing.Statement.{statement}
 use Rattle.judging.proofs.marks.first_failing.Tie as tie
 
-first-mark-requires : tie.Need-first-mark-requires
-first-mark-requires c κs = search needs
-
 returns : tie.Need-returns
 returns c = first-none _ _ _ (c .before .first-mark .ensures) (c .if1 .taken)
 
@@ -22,15 +19,6 @@ pair-at-requires c κs =
       least-is 496
           (failsAt (c .before .before .args .q)) .bound,
     )
-
-judge-requires : tie.Need-judge-requires
-judge-requires c κs = search needs
-
-cast-t12 : tie.Need-cast-t12
-cast-t12 c = search needs
-
-cast-t13 : tie.Need-cast-t13
-cast-t13 c = search needs
 
 returns-2 : tie.Need-returns-2
 returns-2 c =
@@ -45,10 +33,10 @@ pub first-failing-spec : {M : Type 1} → statement M
 first-failing-spec =
     tie.close
     (tie.spec
-    first-mark-requires
+    (λ c κs. search needs)
     returns
     pair-at-requires
-    judge-requires
-    cast-t12
-    cast-t13
+    (λ c κs. search needs)
+    (λ c. search needs)
+    (λ c. search needs)
     returns-2)

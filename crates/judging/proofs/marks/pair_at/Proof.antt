@@ -29,9 +29,6 @@ sub-loop c = omega (arith, low c)
 sub-left : tie.Need-sub-left Inv-loop μ-loop
 sub-left c = omega (arith, low (c .before))
 
-sub-left-2 : tie.Need-sub-left-2 Inv-loop μ-loop
-sub-left-2 c = omega arith
-
 add-i : tie.Need-add-i Inv-loop μ-loop
 add-i c = omega (arith, low (c .before))
 
@@ -59,7 +56,7 @@ pair-at-spec =
     loop-holds
     sub-loop
     sub-left
-    sub-left-2
+    (λ c. omega arith)
     add-i
     loop-less
     loop-again

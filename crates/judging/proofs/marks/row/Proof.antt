@@ -38,12 +38,6 @@ unordered-requires c κs = (omega arith, omega arith)
 mark-requires : tie.Need-mark-requires Inv-loop μ-loop
 mark-requires c κs = (omega arith, omega arith)
 
-add-q : tie.Need-add-q Inv-loop μ-loop
-add-q c = search needs
-
-sub-q : tie.Need-sub-q Inv-loop μ-loop
-sub-q c = search needs
-
 -- the place of the pair
 place : (c : tie.In-loop Inv-loop μ-loop)
     → c .before .before .args .at + (c .before .loop .j - (c .before .before .args .i + 1)) < 496
@@ -60,12 +54,6 @@ add-q-2 c = omega (arith, place (c .before .before .before))
 array-write-q : tie.Need-array-write-q Inv-loop μ-loop
 array-write-q c =
     omega (arith, place (c .before .before .before), c .before .before .before .before .loop .inv .5 .len, zeros-size)
-
-add-j-2 : tie.Need-add-j-2 Inv-loop μ-loop
-add-j-2 c = search needs
-
-loop-less : tie.Need-loop-less Inv-loop μ-loop
-loop-less c = search needs
 
 loop-again : tie.Need-loop-again Inv-loop μ-loop
 loop-again c =
@@ -102,11 +90,11 @@ row-spec =
     loop-holds
     unordered-requires
     mark-requires
-    add-q
-    sub-q
+    (λ c. search needs)
+    (λ c. search needs)
     add-q-2
     array-write-q
-    add-j-2
-    loop-less
+    (λ c. search needs)
+    (λ c. search needs)
     loop-again
     returns)

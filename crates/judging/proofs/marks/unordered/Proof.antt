@@ -6,30 +6,12 @@ use borrow.Author.Needs.{needs}
 use Rattle.judging.proofs.marks.unordered.Statement.{statement}
 use Rattle.judging.proofs.marks.unordered.Tie as tie
 
-mul-has : tie.Need-mul-has
-mul-has c = search needs
-
-array-read-has : tie.Need-array-read-has
-array-read-has c = search needs
-
-has-requires : tie.Need-has-requires
-has-requires c κs = search needs
-
 returns : tie.Need-returns
 returns c =
     record {
       unordered = λ e. absurd (false≢true e);
       ordered = λ e. inl (sym (c .before .has .ensures) ∙ c .if1 .taken);
     }
-
-mul-has-2 : tie.Need-mul-has-2
-mul-has-2 c = search needs
-
-array-read-has-2 : tie.Need-array-read-has-2
-array-read-has-2 c = search needs
-
-has-requires-2 : tie.Need-has-requires-2
-has-requires-2 c κs = search needs
 
 returns-2 : tie.Need-returns-2
 returns-2 c =
@@ -52,12 +34,12 @@ pub unordered-spec : {M : Type 1} → statement M
 unordered-spec =
     tie.close
     (tie.spec
-    mul-has
-    array-read-has
-    has-requires
+    (λ c. search needs)
+    (λ c. search needs)
+    (λ c κs. search needs)
     returns
-    mul-has-2
-    array-read-has-2
-    has-requires-2
+    (λ c. search needs)
+    (λ c. search needs)
+    (λ c κs. search needs)
     returns-2
     returns-3)

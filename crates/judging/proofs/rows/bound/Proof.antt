@@ -13,9 +13,6 @@ use borrow.Author.Needs.{needs}
 use Rattle.judging.proofs.rows.bound.Statement.{statement}
 use Rattle.judging.proofs.rows.bound.Tie as tie
 
-beyond-requires : tie.Need-beyond-requires
-beyond-requires c κs = search needs
-
 returns : tie.Need-returns
 returns c =
     let b = sym (c .before .beyond .ensures) ∙ c .if1 .taken in
@@ -25,15 +22,6 @@ returns c =
       endless = λ e r w. absurd (false≢true (sym e ∙ b));
       done = λ e w. absurd (false≢true (sym e ∙ b));
     }
-
-triggers-requires : tie.Need-triggers-requires
-triggers-requires c κs = search needs
-
-closure-requires : tie.Need-closure-requires
-closure-requires c κs = search needs
-
-loops-requires : tie.Need-loops-requires
-loops-requires c κs = search needs
 
 returns-2 : tie.Need-returns-2
 returns-2 c =
@@ -50,9 +38,6 @@ weights-requires c κs =
     let t = c .before .before .before in
     let s = t .before .before .before in
     (s .pre .few, subst (Rows (s .args .m .n)) (sym (t .triggers .ensures)) (triggers-rows (s .args .m) (s .pre)))
-
-total-requires : tie.Need-total-requires
-total-requires c κs = search needs
 
 returns-3 : tie.Need-returns-3
 returns-3 c =
@@ -72,12 +57,12 @@ pub bound-spec : {M : Type 1} → statement M
 bound-spec =
     tie.close
     (tie.spec
-    beyond-requires
+    (λ c κs. search needs)
     returns
-    triggers-requires
-    closure-requires
-    loops-requires
+    (λ c κs. search needs)
+    (λ c κs. search needs)
+    (λ c κs. search needs)
     returns-2
     weights-requires
-    total-requires
+    (λ c κs. search needs)
     returns-3)

@@ -5,15 +5,6 @@ use borrow.Author.Needs.{needs}
 use Rattle.judging.proofs.rows.drawn.Statement.{statement}
 use Rattle.judging.proofs.rows.drawn.Tie as tie
 
-triggers-requires : tie.Need-triggers-requires
-triggers-requires c κs = search needs
-
-closure-requires : tie.Need-closure-requires
-closure-requires c κs = search needs
-
-clashes-requires : tie.Need-clashes-requires
-clashes-requires c κs = search needs
-
 returns : tie.Need-returns
 returns c =
     record {
@@ -26,4 +17,4 @@ returns c =
     }
 
 pub drawn-spec : {M : Type 1} → statement M
-drawn-spec = tie.close (tie.spec triggers-requires closure-requires clashes-requires returns)
+drawn-spec = tie.close (tie.spec (λ c κs. search needs) (λ c κs. search needs) (λ c κs. search needs) returns)

@@ -6,24 +6,6 @@ use borrow.Author.Needs.{needs}
 use Rattle.judging.proofs.rows.report.Statement.{statement}
 use Rattle.judging.proofs.rows.report.Tie as tie
 
-drawn-requires : tie.Need-drawn-requires
-drawn-requires c κs = search needs
-
-closure-requires : tie.Need-closure-requires
-closure-requires c κs = search needs
-
-loops-requires : tie.Need-loops-requires
-loops-requires c κs = search needs
-
-filled-requires : tie.Need-filled-requires
-filled-requires c κs = search needs
-
-failing-requires : tie.Need-failing-requires
-failing-requires c κs = search needs
-
-first-failing-requires : tie.Need-first-failing-requires
-first-failing-requires c κs = search needs
-
 returns : tie.Need-returns
 returns c =
     let l = c .before .before .before in
@@ -51,10 +33,10 @@ pub report-spec : {M : Type 1} → statement M
 report-spec =
     tie.close
     (tie.spec
-    drawn-requires
-    closure-requires
-    loops-requires
-    filled-requires
-    failing-requires
-    first-failing-requires
+    (λ c κs. search needs)
+    (λ c κs. search needs)
+    (λ c κs. search needs)
+    (λ c κs. search needs)
+    (λ c κs. search needs)
+    (λ c κs. search needs)
     returns)

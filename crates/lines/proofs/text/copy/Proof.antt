@@ -27,9 +27,6 @@ put-bytes-requires c κs =
     let a = c .before .before .before .before .before .args in
     omega (arith, length-take-le (a .t .len) (a .t .bytes) (array-share-prefix-b (c .before)))
 
-same-length : tie.Need-same-length
-same-length c = search needs
-
 returns-2 : tie.Need-returns-2
 returns-2 c =
     let p = c .before .before in
@@ -47,5 +44,5 @@ copy-spec =
     array-share-prefix-b
     slice-aggregate-put-bytes
     put-bytes-requires
-    same-length
+    (λ c. search needs)
     returns-2)

@@ -5,15 +5,9 @@ use borrow.Author.Needs.{needs}
 use Rattle.lines.proofs.text.number.Statement.{statement}
 use Rattle.lines.proofs.text.number.Tie as tie
 
-push-requires : tie.Need-push-requires
-push-requires c κs = search needs
-
-digits-requires : tie.Need-digits-requires
-digits-requires c κs = search needs
-
 returns : tie.Need-returns
 unfolding spaced
 returns c = added-on (c .before .push .ensures) (c .digits .ensures)
 
 pub number-spec : {M : Type 1} → statement M
-number-spec = tie.close (tie.spec push-requires digits-requires returns)
+number-spec = tie.close (tie.spec (λ c κs. search needs) (λ c κs. search needs) returns)

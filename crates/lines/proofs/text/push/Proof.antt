@@ -8,12 +8,6 @@ use borrow.Author.Needs.{needs}
 use Rattle.lines.proofs.text.push.Statement.{statement}
 use Rattle.lines.proofs.text.push.Tie as tie
 
-array-write-b : tie.Need-array-write-b
-array-write-b c = search needs
-
-add-t8 : tie.Need-add-t8
-add-t8 c = search needs
-
 returns : tie.Need-returns
 returns c =
     let t = c .before .args .t in
@@ -25,4 +19,4 @@ returns c =
     }
 
 pub push-spec : {M : Type 1} → statement M
-push-spec = tie.close (tie.spec array-write-b add-t8 returns)
+push-spec = tie.close (tie.spec (λ c. search needs) (λ c. search needs) returns)

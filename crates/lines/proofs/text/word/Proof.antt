@@ -18,19 +18,10 @@ abbrev μ-loop : tie.MeasureT-loop
 loop-holds : tie.Need-loop-holds Inv-loop μ-loop
 loop-holds c = (omega arith, refl, c .before .pre, added-none (c .before .args .t))
 
-shared-slice-read-push : tie.Need-shared-slice-read-push Inv-loop μ-loop
-shared-slice-read-push c = omega arith
-
 push-requires : tie.Need-push-requires Inv-loop μ-loop
 push-requires c κs =
     let at = c .before .before .loop in
     record { whole = omega (arith, at .inv .2, at .inv .3); fits = omega (arith, at .inv .2, at .inv .3) }
-
-add-j : tie.Need-add-j Inv-loop μ-loop
-add-j c = omega arith
-
-loop-less : tie.Need-loop-less Inv-loop μ-loop
-loop-less c = omega arith
 
 loop-again : tie.Need-loop-again Inv-loop μ-loop
 loop-again c =
@@ -56,9 +47,9 @@ word-spec =
     Inv-loop
     μ-loop
     loop-holds
-    shared-slice-read-push
+    (λ c. omega arith)
     push-requires
-    add-j
-    loop-less
+    (λ c. omega arith)
+    (λ c. omega arith)
     loop-again
     returns)

@@ -7,13 +7,10 @@ use Rattle.mask.specs.MaskLaws.{has-minus}
 use Rattle.machine.proofs.running.eligible.Statement.{statement}
 use Rattle.machine.proofs.running.eligible.Tie as tie
 
-gather-requires : tie.Need-gather-requires
-gather-requires c κs = search needs
-
 returns : tie.Need-returns
 returns c =
     let w = c .before .args .waiting in
     λ r. has-minus w (c .gather .result) r ∙ ap (λ (b : Bool). has w r && not b) (c .gather .ensures r)
 
 pub eligible-spec : {M : Type 1} → statement M
-eligible-spec = tie.close (tie.spec gather-requires returns)
+eligible-spec = tie.close (tie.spec (λ c κs. search needs) returns)

@@ -24,9 +24,6 @@ abbrev μ-loop : tie.MeasureT-loop
 loop-holds : tie.Need-loop-holds Inv-loop μ-loop
 loop-holds c = (search needs, c .pre .1, stands-start (c .args .t) (c .args .s) (c .args .budget))
 
-ran-requires : tie.Need-ran-requires Inv-loop μ-loop
-ran-requires c κs = search needs
-
 returns : tie.Need-returns Inv-loop μ-loop
 returns c =
     let a = c .before .before .before .before .before .args in
@@ -34,12 +31,6 @@ returns c =
     c .ran .ensures
     ∙ sym (stands-spent (a .t) (a .s) (a .budget) (l .now) (l .steps) (c .before .before .if1 .taken)
     (c .before .if2 .taken) (l .inv .2))
-
-eligible-requires : tie.Need-eligible-requires Inv-loop μ-loop
-eligible-requires c κs = search needs
-
-lowest-requires : tie.Need-lowest-requires Inv-loop μ-loop
-lowest-requires c κs = search needs
 
 -- the rule taken is the lowest eligible one
 taken : (c : tie.After-lowest Inv-loop μ-loop)
@@ -68,12 +59,6 @@ effect-requires c κs =
           (c .before .before .before .if1 .taken)),
     )
 
-add-steps : tie.Need-add-steps Inv-loop μ-loop
-add-steps c = search needs
-
-loop-less : tie.Need-loop-less Inv-loop μ-loop
-loop-less c = search needs
-
 loop-again : tie.Need-loop-again Inv-loop μ-loop
 loop-again c =
     let d = c .before .before .before .before .before .before .before in
@@ -86,9 +71,6 @@ loop-again c =
       stands-turn (d .args .t) (d .args .s) (d .args .budget) (l .now) (l .steps) (omega arith)
           (c .before .before .before .before .if1 .taken) (l .inv .2),
     )
-
-ran-requires-2 : tie.Need-ran-requires-2 Inv-loop μ-loop
-ran-requires-2 c κs = search needs
 
 returns-2 : tie.Need-returns-2 Inv-loop μ-loop
 returns-2 c =
@@ -104,13 +86,13 @@ runs-spec =
     Inv-loop
     μ-loop
     loop-holds
-    ran-requires
+    (λ c κs. search needs)
     returns
-    eligible-requires
-    lowest-requires
+    (λ c κs. search needs)
+    (λ c κs. search needs)
     effect-requires
-    add-steps
-    loop-less
+    (λ c. search needs)
+    (λ c. search needs)
     loop-again
-    ran-requires-2
+    (λ c κs. search needs)
     returns-2)
