@@ -1,5 +1,5 @@
 -- Runs of bytes one after another. Assumes nothing.
-use mathlib.Core.Path.{_≡_, refl, ap₂}
+use mathlib.Core.Path.{_≡_, refl, sym, ap, ap₂, _∙_}
 use mathlib.Core.List.{List, [], _++_}
 use Prim.Native.Nat.{ℕ, zero, suc, _+_, _*_, _≤_, _<_}
 use native.Mathlib.Nat.{mul-zero, mul-suc}
@@ -7,6 +7,7 @@ use native.Mathlib.Numerals.{add-one}
 use native.Mathlib.Omega.{arith}
 use lib.ListN.{length, length-append}
 use borrow.Author.Count.{below-more}
+use Rattle.endian.specs.Put.{put, put-next}
 use Rattle.endian.specs.Stands.{Stands, stands-nil, stands-append, stands-left, stands-right}
 
 -- f 0, f 1, .., f (n - 1), one after another
@@ -19,6 +20,13 @@ joined (suc n) f = joined n f ++ f n
 pub joined-more : (n : ℕ) (f : ℕ → List ℕ) → joined (n + 1) f ≡ joined n f ++ f n
 unfolding joined
 joined-more n f = rw add-one refl
+
+-- one run more, written where the first n end
+pub put-joined : (d : List ℕ) (at : ℕ) (f : ℕ → List ℕ) (n : ℕ) {l m : List ℕ} → l ≡ put d at (joined n f)
+    → at + length (joined n f) ≤ length d → (p : ℕ) → p ≡ at + length (joined n f) → m ≡ put l p (f n)
+    → m ≡ put d at (joined (n + 1) f)
+put-joined d at f n e fits p q g =
+    put-next d at (joined n f) e fits p q (f n) g ∙ ap (put d at) (sym (joined-more n f))
 
 -- runs of w bytes each
 pub length-joined : (w n : ℕ) (f : ℕ → List ℕ) → ((j : ℕ) → length (f j) ≡ w) → length (joined n f) ≡ w * n

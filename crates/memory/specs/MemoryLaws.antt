@@ -1,10 +1,10 @@
 -- How many bytes a table has, one rule after another. Assumes nothing.
 use mathlib.Core.Path.{_≡_}
-use mathlib.Core.List.{List, _++_}
-use Prim.Native.Nat.{ℕ, _+_, _*_}
+use mathlib.Core.List.{List}
+use Prim.Native.Nat.{ℕ, _*_}
 use native.Mathlib.Omega.{arith}
 use lib.ListN.{length, getD}
-use Rattle.endian.specs.Joined.{joined-more, length-joined}
+use Rattle.endian.specs.Joined.{length-joined}
 use Rattle.rule.specs.declared.Rule.{Rule}
 use Rattle.rule.specs.Empty.{blankRule}
 use Rattle.pieces.specs.Pieces.{slotBytes}
@@ -17,10 +17,6 @@ module _ (rules : List Rule) (i : ℕ) where
   unfolding rulesBytes
   length-rules =
       length-joined 284 i (λ j. slotBytes (getD rules j blankRule)) (λ j. length-rule (getD rules j blankRule) 8 8 16)
-
-  pub rules-more : rulesBytes rules (i + 1) ≡ rulesBytes rules i ++ slotBytes (getD rules i blankRule)
-  unfolding rulesBytes
-  rules-more = joined-more i (λ j. slotBytes (getD rules j blankRule))
 
 pub length-table : (t : Table) → length (tableBytes t) ≡ 9092
 unfolding tableBytes

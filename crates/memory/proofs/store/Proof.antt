@@ -5,11 +5,11 @@ use Prim.Native.Nat.{ℕ, _+_, _*_, _≤_, _-_}
 use native.Mathlib.Omega.{arith}
 use lib.ListN.{length, getD}
 use Rattle.endian.specs.Put.{put, put-nil, put-next, put-whole}
-use Rattle.endian.specs.Joined.{joined}
+use Rattle.endian.specs.Joined.{joined, put-joined}
 use Rattle.rule.specs.Empty.{blankRule}
 use Rattle.pieces.specs.Pieces.{slotBytes}
 use Rattle.memory.specs.Memory.{rulesBytes, tableBytes}
-use Rattle.memory.specs.MemoryLaws.{length-rules, rules-more, length-table}
+use Rattle.memory.specs.MemoryLaws.{length-rules, length-table}
 use borrow.Author.Needs.{needs}
 use Rattle.memory.proofs.store.Statement.{statement}
 use Rattle.memory.proofs.store.Tie as tie
@@ -29,6 +29,7 @@ write-rule-requires c κs =
     record { tests = omega arith; assigns = omega arith; letters = omega arith; inside = search needs }
 
 loop-again : tie.Need-loop-again Inv-loop μ-loop
+unfolding rulesBytes
 loop-again c =
     let l = c .before .before .before .before in
     let old = l .before .put-4 .last .0 in
@@ -36,9 +37,8 @@ loop-again c =
     let i = l .loop .i in
     let n = length-rules rules i in (
       search needs,
-      put-next old 4 (rulesBytes rules i) (l .loop .inv .1) (omega arith) (4 + 284 * i) (omega arith)
-          (slotBytes (getD rules i blankRule)) (c .write-rule .ensures)
-          ∙ ap (put old 4) (sym (rules-more rules i)),
+      put-joined old 4 (λ j. slotBytes (getD rules j blankRule)) i (l .loop .inv .1) (omega arith) (4 + 284 * i)
+          (omega arith) (c .write-rule .ensures),
       search needs,
     )
 

@@ -1,12 +1,11 @@
 -- The first j are written: one more where they end is the first j + 1.
 use mathlib.Core.Path.{_≡_, sym, ap, _∙_}
-use mathlib.Core.List.{List}
 use Prim.Native.Nat.{ℕ, _+_, _*_, _≤_, _-_}
 use native.Mathlib.Omega.{arith}
 use lib.ListN.{length, getD}
 use borrow.Author.Needs.{needs}
-use Rattle.endian.specs.Put.{put, put-nil, put-next}
-use Rattle.endian.specs.Joined.{joined, joined-more}
+use Rattle.endian.specs.Put.{put, put-nil}
+use Rattle.endian.specs.Joined.{joined, put-joined}
 use Rattle.rule.specs.Empty.{noAssign}
 use Rattle.pieces.specs.Pieces.{assignBytes, assignsBytes}
 use Rattle.pieces.specs.Lengths.{length-assigns}
@@ -30,12 +29,10 @@ loop-again c =
     let l = d .before .before .before .before in
     let a = l .before .before .args in
     let j = l .loop .j in
-    let f : ℕ → List ℕ = λ i. assignBytes (getD (a .t3) i noAssign) in
     let n = length-assigns (a .t3) j in (
       search needs,
-      put-next (a .out .now) (a .at) (joined j f) (l .loop .inv .1) (omega arith) (a .at + 20 * j) (omega arith)
-          (f j) (d .write-assign .ensures)
-          ∙ ap (put (a .out .now) (a .at)) (sym (joined-more j f)),
+      put-joined (a .out .now) (a .at) (λ i. assignBytes (getD (a .t3) i noAssign)) j (l .loop .inv .1) (omega arith)
+          (a .at + 20 * j) (omega arith) (d .write-assign .ensures),
       search needs,
     )
 

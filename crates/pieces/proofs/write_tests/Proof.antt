@@ -1,12 +1,11 @@
 -- The first j are written: one more where they end is the first j + 1.
 use mathlib.Core.Path.{_≡_, sym, ap, _∙_}
-use mathlib.Core.List.{List}
 use Prim.Native.Nat.{ℕ, _+_, _*_, _≤_, _-_}
 use native.Mathlib.Omega.{arith}
 use lib.ListN.{length, getD}
 use borrow.Author.Needs.{needs}
-use Rattle.endian.specs.Put.{put, put-nil, put-next}
-use Rattle.endian.specs.Joined.{joined, joined-more}
+use Rattle.endian.specs.Put.{put, put-nil}
+use Rattle.endian.specs.Joined.{joined, put-joined}
 use Rattle.rule.specs.Empty.{noTest}
 use Rattle.pieces.specs.Pieces.{testBytes, testsBytes}
 use Rattle.pieces.specs.Lengths.{length-tests}
@@ -30,12 +29,10 @@ loop-again c =
     let l = d .before .before .before .before in
     let a = l .before .before .args in
     let j = l .loop .j in
-    let f : ℕ → List ℕ = λ i. testBytes (getD (a .t3) i noTest) in
     let n = length-tests (a .t3) j in (
       search needs,
-      put-next (a .out .now) (a .at) (joined j f) (l .loop .inv .1) (omega arith) (a .at + 12 * j) (omega arith)
-          (f j) (d .write-test .ensures)
-          ∙ ap (put (a .out .now) (a .at)) (sym (joined-more j f)),
+      put-joined (a .out .now) (a .at) (λ i. testBytes (getD (a .t3) i noTest)) j (l .loop .inv .1) (omega arith)
+          (a .at + 12 * j) (omega arith) (d .write-test .ensures),
       search needs,
     )
 

@@ -6,12 +6,12 @@ use lib.IntN.{ℤ}
 use lib.ListN.{length}
 use mir.Facts.{toZ-ofZ}
 use borrow.Author.Needs.{needs, sfits-of}
-use Rattle.endian.specs.Put.{put, put-nil, put-next}
+use Rattle.endian.specs.Put.{put, put-nil}
 use Rattle.endian.specs.Bytes.{i64Bytes}
-use Rattle.endian.specs.Joined.{joined}
+use Rattle.endian.specs.Joined.{joined, put-joined}
 use Rattle.amounts.specs.Amounts.{at}
 use Rattle.states.specs.States.{cellsBytes}
-use Rattle.states.specs.StatesLaws.{length-cells, cells-more}
+use Rattle.states.specs.StatesLaws.{length-cells}
 use Rattle.states.proofs.put_cells.Statement.{statement}
 use Rattle.states.proofs.put_cells.Tie as tie
 
@@ -26,6 +26,7 @@ unfolding cellsBytes joined
 loop-holds c = (search needs, sym (put-nil (c .before .args .out .now) 0), search needs)
 
 loop-again : tie.Need-loop-again Inv-loop μ-loop
+unfolding cellsBytes
 loop-again c =
     let d = c .before .before in
     let l = d .before .before .before .before in
@@ -33,11 +34,9 @@ loop-again c =
     let i = l .loop .i in
     let n = length-cells (a .t2) i in (
       search needs,
-      put-next (a .out .now) 0 (cellsBytes (a .t2) i) (l .loop .inv .1) (omega arith) (8 * i) (omega arith)
-          (i64Bytes (at (a .t2) i))
+      put-joined (a .out .now) 0 (λ j. i64Bytes (at (a .t2) j)) i (l .loop .inv .1) (omega arith) (8 * i) (omega arith)
           (d .put-i64 .ensures
-          ∙ ap (λ (z : ℤ). put (l .loop .out) (8 * i) (i64Bytes z)) (toZ-ofZ (sfits-of (d .before .put-i64-arg2 .given))))
-          ∙ ap (put (a .out .now) 0) (sym (cells-more (a .t2) i)),
+          ∙ ap (λ (z : ℤ). put (l .loop .out) (8 * i) (i64Bytes z)) (toZ-ofZ (sfits-of (d .before .put-i64-arg2 .given)))),
       search needs,
     )
 

@@ -1,11 +1,10 @@
 -- The bodies of the rules passed are written, and the next one goes where they end.
 use mathlib.Core.Path.{_≡_, refl, sym, ap, ap₂, _∙_}
-use mathlib.Core.List.{List}
 use Prim.Native.Nat.{ℕ, _+_, _*_, _≤_, _-_}
 use native.Mathlib.Omega.{arith}
 use lib.ListN.{length, getD}
-use Rattle.endian.specs.Put.{put, put-nil, put-next}
-use Rattle.endian.specs.Joined.{joined, joined-more}
+use Rattle.endian.specs.Put.{put, put-nil}
+use Rattle.endian.specs.Joined.{joined, put-joined}
 use Rattle.rule.specs.Empty.{blankRule}
 use Rattle.pieces.specs.Pieces.{bodyBytes}
 use Rattle.writer.specs.Book.{bodySize, startAt, bodiesBytes}
@@ -66,14 +65,12 @@ loop-again c =
     let s = t .before .before .before in
     let a = s .args in
     let i = l .i in
-    let f : ℕ → List ℕ = λ j. bodyBytes (getD (a .t3) j blankRule) in
     let n = length-bodies (a .n) (a .t3) i in
     let room = inside t in (
       search needs,
       ap₂ _+_ (l .inv .1) (c .body-size .ensures .0) ∙ sym (start-more (a .n) (a .t3) i),
-      put-next (a .out .now) (4 + 4 * a .n) (joined i f) (l .inv .2) (omega arith) (l .at) (omega arith) (f i)
-          (w .write-body .ensures)
-          ∙ ap (put (a .out .now) (4 + 4 * a .n)) (sym (joined-more i f)),
+      put-joined (a .out .now) (4 + 4 * a .n) (λ j. bodyBytes (getD (a .t3) j blankRule)) i (l .inv .2) (omega arith)
+          (l .at) (omega arith) (w .write-body .ensures),
       search needs,
     )
 

@@ -4,9 +4,9 @@ use mathlib.Core.List.{_++_}
 use Prim.Native.Nat.{ℕ, _+_, _*_, _≤_, _-_}
 use native.Mathlib.Omega.{arith}
 use lib.ListN.{length}
-use Rattle.endian.specs.Put.{put, put-nil, put-next}
+use Rattle.endian.specs.Put.{put, put-nil}
 use Rattle.endian.specs.Bytes.{u16Bytes}
-use Rattle.endian.specs.Joined.{joined, joined-more}
+use Rattle.endian.specs.Joined.{joined, put-joined}
 use Rattle.writer.specs.Book.{startAt, entryBytes, contentsBytes}
 use Rattle.writer.specs.BookLaws.{start-more, start-most, length-contents}
 use borrow.Author.Needs.{needs}
@@ -63,11 +63,9 @@ loop-again c =
     let room = b .before .before .before .before .before .pre .1 in (
       search needs,
       ap₂ _+_ (l .inv .1) (b .body-size .ensures .0) ∙ sym (start-more (a .n) (a .t3) i),
-      put-next (a .out .now) 4 (contentsBytes (a .n) (a .t3) i) (l .inv .2) (omega arith) (4 + 4 * i) (omega arith)
-          (entryBytes (a .n) (a .t3) i)
+      put-joined (a .out .now) 4 (entryBytes (a .n) (a .t3)) i (l .inv .2) (omega arith) (4 + 4 * i) (omega arith)
           (w .write-entry .ensures
-          ∙ ap₂ (λ (x y : ℕ). put (l .out) (4 + 4 * i) (u16Bytes x ++ u16Bytes y)) (l .inv .1) (b .body-size .ensures .0))
-          ∙ ap (put (a .out .now) 4) (sym (joined-more i (entryBytes (a .n) (a .t3)))),
+          ∙ ap₂ (λ (x y : ℕ). put (l .out) (4 + 4 * i) (u16Bytes x ++ u16Bytes y)) (l .inv .1) (b .body-size .ensures .0)),
       search needs,
     )
 
