@@ -3,7 +3,6 @@ use mathlib.Core.Path.{_≡_, refl, sym, ap, _∙_}
 use mathlib.Core.List.{List, [], _∷_, _++_}
 use mathlib.Core.Logic.{⊎-elim}
 use Prim.Native.Nat.{ℕ, zero, suc, _+_, _*_, _≤_, _<_}
-use native.Mathlib.Decide.{ℕ-discrete}
 use native.Mathlib.Omega.{arith}
 use lib.ListN.{length, take, drop, length-append}
 use borrow.Author.Tests.{lt-ltb, le-ltb, ne-eqb}
@@ -24,13 +23,6 @@ module _ (t : Table) where
   pub size-done : checkOf t .number ≡ 0 → sizeOf t ≡ written 0 255 (length (bookOf t))
   unfolding sizeOf
   size-done e = rw e
-
-  pub size-number : sizeOf t .number ≡ checkOf t .number
-  size-number = pick (ℕ-discrete (checkOf t .number) 0)
-    where
-      pick : Dec (checkOf t .number ≡ 0) → sizeOf t .number ≡ checkOf t .number
-      pick (yes e) = rw (size-done e) (sym e)
-      pick (no ne) = rw (size-refused ne) refl
 
   module _ (d : List ℕ) where
     pub write-refused : (checkOf t .number ≡ 0 → ⊥) → writeOf t d ≡ (written (checkOf t .number) (checkOf t .place) 0, d)

@@ -106,21 +106,30 @@ pub fn size(t: Table) -> Written
 pub fn write(t: Table, out: &mut [u8]) -> Written
     ensures { λ r. ⌜ (r, now (out .exit)) ≡ writeOf t (now (out .entry)) ⌝ }
 {
-    let sized = size(t);
-    if sized.number != 0 {
-        return sized;
+    let a = book::check(t);
+    if a.number != 0 {
+        return Written {
+            number: a.number,
+            place: a.place,
+            length: 0,
+        };
     }
-    if out.len() < sized.length {
+    let n = rule::count(t.n);
+    let rules = t.rules;
+    let size = end_of(n, rules);
+    if out.len() < size {
         return Written {
             number: 18,
             place: 255,
             length: 0,
         };
     }
-    let n = rule::count(t.n);
-    let rules = t.rules;
     endian::put_4(out, 0, 1, t.n, t.k, 0);
     write_contents(out, n, rules);
     write_bodies(out, n, rules);
-    sized
+    Written {
+        number: 0,
+        place: 255,
+        length: size,
+    }
 }

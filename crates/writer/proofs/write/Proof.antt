@@ -7,101 +7,100 @@ use lib.ListN.{length}
 use Rattle.endian.specs.Put.{put}
 use Rattle.book.specs.Sound.{sound-by}
 use Rattle.book.specs.declared.Table.{Table}
+use Rattle.book.specs.declared.Answer.{Answer}
 use Rattle.book.specs.Check.{checkOf}
-use Rattle.writer.specs.declared.Written.{Written}
 use Rattle.writer.specs.Book.{startAt, contentsBytes, bodiesBytes, bookOf}
 use Rattle.writer.specs.BookLaws.{Ready, ready, length-book, length-bodies}
 use Rattle.writer.specs.Write.{written}
-use Rattle.writer.specs.WriteLaws.{size-refused, size-done, size-number, write-refused, write-short, write-done, put-book}
+use Rattle.writer.specs.WriteLaws.{write-refused, write-short, write-done, put-book}
 use borrow.Author.Needs.{needs}
 use Rattle.writer.proofs.write.Statement.{statement}
 use Rattle.writer.proofs.write.Tie as tie
-
--- the number that was tested is that of the checks
-number-is : (c : tie.After-size) → c .size .result .number ≡ checkOf (c .before .before .args .t) .number
-number-is c = ap (λ (w : Written). w .number) (c .size .ensures) ∙ size-number (c .before .before .args .t)
 
 returns : tie.Need-returns
 returns c =
     let k = c .before .before in
     let a = k .before .before .args in
-    let bad : checkOf (a .t) .number ≡ 0 → ⊥ = λ e. c .if1 .taken (number-is k ∙ e) in
-    ap (λ (w : Written). (w, a .out .now)) (k .size .ensures ∙ size-refused (a .t) bad)
-    ∙ sym (write-refused (a .t) (a .out .now) bad)
+    let e = k .check .ensures in
+    sym (write-refused (a .t) (a .out .now) (λ z. c .if1 .taken (ap (λ (x : Answer). x .number) e ∙ z))
+    ∙ ap (λ (x : Answer). (written (x .number) (x .place) 0, a .out .now)) (sym e))
 
--- past the checks: the table, and its length
-abbrev T : tie.Else1 → Table
-T c = c .before .before .before .before .args .t
+zero-number : (c : tie.Else1) → checkOf (c .before .before .before .before .args .t) .number ≡ 0
+zero-number c = sym (ap (λ (a : Answer). a .number) (c .before .before .check .ensures)) ∙ c .if1 .left
 
-none : (c : tie.Else1) → checkOf (T c) .number ≡ 0
-none c = sym (number-is (c .before .before)) ∙ c .if1 .left
+end-of-requires : tie.Need-end-of-requires
+end-of-requires c κs =
+    let d = c .before .before in
+    let t = d .before .before .before .before .args .t in
+    omega (arith, c .before .count .ensures .0, ready t (sound-by t (zero-number d)) .few)
 
-sized : (c : tie.Else1) → c .before .before .size .result ≡ written 0 255 (length (bookOf (T c)))
-sized c = c .before .before .size .ensures ∙ size-done (T c) (none c)
+-- past the checks: the table, its rules, its length
+abbrev T : tie.After-end-of → Table
+T c = c .before .before .before .before .before .before .before .args .t
 
-size-is : (c : tie.Else1) → c .before .before .size .result .length ≡ length (bookOf (T c))
-size-is c = ap (λ (w : Written). w .length) (sized c)
+none : (c : tie.After-end-of) → checkOf (T c) .number ≡ 0
+none c = zero-number (c .before .before .before)
+
+rules-ready : (c : tie.After-end-of) → Ready (c .before .before .count .result) (T c .rules)
+rules-ready c =
+    subst (λ (n : ℕ). Ready n (T c .rules)) (sym (c .before .before .count .ensures .0))
+    (ready (T c) (sound-by (T c) (none c)))
+
+size-is : (c : tie.After-end-of) → c .end-of .result ≡ length (bookOf (T c))
+size-is c =
+    c .end-of .ensures
+    ∙ (ap (λ (n : ℕ). startAt n (T c .rules) n) (c .before .before .count .ensures .0) ∙ sym (length-book (T c)))
 
 returns-2 : tie.Need-returns-2
 returns-2 c =
-    let d = c .before .before in
-    let a = d .before .before .before .before .args in
-    sym (write-short (a .t) (a .out .now) (none d) (omega (arith, c .if2 .taken, size-is d)))
-
-rules-ready : (c : tie.After-count) → Ready (c .count .result) (T (c .before .before .before) .rules)
-rules-ready c =
-    let d = c .before .before .before in
-    subst (λ (n : ℕ). Ready n (T d .rules)) (sym (c .count .ensures .0)) (ready (T d) (sound-by (T d) (none d)))
+    let s = c .before in
+    let a = s .before .before .before .before .before .before .before .args in
+    sym (write-short (a .t) (a .out .now) (none s) (omega (arith, c .if2 .taken, size-is s)))
 
 -- there is room for the bodies
-enough : (c : tie.After-count)
-    → startAt (c .count .result) (T (c .before .before .before) .rules) (c .count .result)
-    ≤ length (c .before .before .before .before .before .before .before .args .out .now)
+enough : (c : tie.Else2)
+    → let n = c .before .before .before .count .result in
+    4 + 4 * n + length (bodiesBytes (T (c .before) .rules) n)
+    ≤ length (c .before .before .before .before .before .before .before .before .args .out .now)
 enough c =
-    let e = c .before in
-    let d = e .before .before in
-    subst (λ (n : ℕ). startAt n (T d .rules) n ≤ length (d .before .before .before .before .args .out .now))
-    (sym (c .count .ensures .0)) (omega (arith, length-book (T d), size-is d, e .if2 .left))
+    let n = c .before .before .before .count .result in
+    omega (arith, length-bodies n (T (c .before) .rules) n, c .before .end-of .ensures, c .if2 .left)
 
 put-4-requires : tie.Need-put-4-requires
-put-4-requires c κs =
-    let n = c .before .before in
-    let m = n .count .result in
-    omega (arith, enough n, length-bodies m (T (n .before .before .before) .rules) m)
+put-4-requires c κs = omega (arith, enough (c .before))
 
 write-contents-requires : tie.Need-write-contents-requires
 write-contents-requires c κs =
-    let p = c .before .before .before in
-    let n = p .before .before .before in
-    let m = n .count .result in (
-      rules-ready n,
-      omega (arith, enough n, length-bodies m (T (n .before .before .before) .rules) m, p .put-4 .kept .0),
-    )
+    let d = c .before .before .before .before .before in
+    (rules-ready (d .before), omega (arith, enough d, c .before .before .before .put-4 .kept .0))
 
 write-bodies-requires : tie.Need-write-bodies-requires
 write-bodies-requires c κs =
     let w = c .before .before .before in
     let p = w .before .before .before .before in
-    let n = p .before .before .before in
-    (rules-ready n, omega (arith, enough n, w .write-contents .kept .0, p .put-4 .kept .0))
+    let d = p .before .before in
+    let n = d .before .before .before .count .result in (
+      rules-ready (d .before),
+      omega (arith, enough d, length-bodies n (T (d .before) .rules) n, w .write-contents .kept .0, p .put-4 .kept .0),
+    )
 
 returns-3 : tie.Need-returns-3
 returns-3 c =
     let b = c .before .before in
     let w = b .before .before .before .before in
     let p = w .before .before .before .before in
-    let n = p .before .before .before in
-    let d = n .before .before .before in
-    let a = d .before .before .before .before .args in
+    let d = p .before .before in
+    let s = d .before in
+    let a = s .before .before .before .before .before .before .before .args in
     let t = a .t in
     let l = a .out .now in
-    let room : length (bookOf t) ≤ length l = omega (arith, n .before .if2 .left, size-is d) in
-    let e = n .count .ensures .0 in
+    let room : length (bookOf t) ≤ length l = omega (arith, d .if2 .left, size-is s) in
+    let e = s .before .before .count .ensures .0 in
     let whole = put-book t l room (p .put-4 .ensures)
     (w .write-contents .ensures ∙ ap (λ (n : ℕ). put (p .put-4 .last .0) 4 (contentsBytes n (t .rules) n)) e)
     (b .write-bodies .ensures
     ∙ ap (λ (n : ℕ). put (w .write-contents .last .0) (4 + 4 * n) (bodiesBytes (t .rules) n)) e) in
-    ap₂ (λ (s : Written) (x : List ℕ). (s, x)) (sized d) whole ∙ sym (write-done t l (none d) room)
+    ap₂ (λ (n : ℕ) (x : List ℕ). (written 0 255 n, x)) (size-is s) whole ∙ sym (write-done t l (none s) room)
 
 pub write-spec : {M : Type 1} → statement M
 write-spec =
@@ -109,8 +108,9 @@ write-spec =
     (tie.spec
     (λ c κs. search needs)
     returns
-    returns-2
     (λ c κs. search needs)
+    end-of-requires
+    returns-2
     put-4-requires
     write-contents-requires
     write-bodies-requires
