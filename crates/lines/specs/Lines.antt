@@ -39,14 +39,14 @@ pub record TextOf (r : Reading) (text : List ℕ) : Type 0 where
   pub refused : (r .number ≡ 0 → ⊥) → text ≡ refusedLine (r .number) (r .place)
   pub done : r .number ≡ 0 → FourLines (r .table) text
 
--- the number and the place of a reading, and a length
-abbrev pub printedOf : Reading → ℕ → Printed
-printedOf r size = record { number = r .number; place = r .place; length = size }
-
 -- a text that says it
 pub record Told (r : Reading) (u : Text) : Type 0 where
   pub text : TextOf r (said u)
   pub room : Room u 0
+
+-- the number and the place of a reading, and a length
+abbrev pub printedOf : Reading → ℕ → Printed
+printedOf r size = record { number = r .number; place = r .place; length = size }
 
 -- "It reads a book .. and prints": what a call gives for the book s and the buffer d, and the buffer e that it leaves
 pub record LinesSay (s d : List ℕ) (r : Printed) (e : List ℕ) : Type 0 where

@@ -31,14 +31,15 @@ all-rules n set few h e =
     let top = pow-mono few in
     ext 32 set (2 ^ n - 1) h (omega arith) (λ i l. e i ∙ sym (has-ones n i))
 
--- the length that is given lies in the buffer
-pub within : {s d : List ℕ} {r : Printed} {e : List ℕ} → LinesSay s d r e → r .length ≤ length d
+-- the length that is given lies in the buffer, and is at most 512
+pub within : {s d : List ℕ} {r : Printed} {e : List ℕ} → LinesSay s d r e → (r .length ≤ length d) × (r .length ≤ 512)
 within {s} {d} {r} {e} h = rw (h .given) (pick (ltb (length d) (length (h .text))) refl)
   where
     pick : (b : Bool) → ltb (length d) (length (h .text)) ≡ b
-        → cond {A = ℕ × List ℕ} b (0, d) (length (h .text), put d 0 (h .text)) .0 ≤ length d
-    pick true q = omega arith
-    pick false q = ltb-false (length d) (length (h .text)) q
+        → let size = cond {A = ℕ × List ℕ} b (0, d) (length (h .text), put d 0 (h .text)) .0 in
+        (size ≤ length d) × (size ≤ 512)
+    pick true q = (omega arith, omega arith)
+    pick false q = (ltb-false (length d) (length (h .text)) q, h .most)
 
 -- a buffer of 512 bytes always gets the text
 pub enough : {s d : List ℕ} {r : Printed} {e : List ℕ} → (h : LinesSay s d r e) → 512 ≤ length d

@@ -3,6 +3,7 @@ use mathlib.Core.Path.{_≡_, refl, sym, ap, _∙_}
 use mathlib.Core.List.{List, [], _∷_, _++_}
 use mathlib.Core.Logic.{⊎-elim}
 use Prim.Native.Nat.{ℕ, zero, suc, _+_, _*_, _≤_, _<_}
+use native.Mathlib.Decide.{ℕ-discrete}
 use native.Mathlib.Omega.{arith}
 use lib.ListN.{length, take, drop, length-append}
 use borrow.Author.Tests.{lt-ltb, le-ltb, ne-eqb}
@@ -10,9 +11,10 @@ use Rattle.mask.specs.SearchLaws.{lt-or-ge}
 use Rattle.endian.specs.Put.{put, put-next, put-front, put-rest}
 use Rattle.book.specs.declared.Table.{Table}
 use Rattle.book.specs.Check.{checkOf}
+use Rattle.book.specs.Sound.{sound-by}
 use Rattle.writer.specs.declared.Written.{Written}
 use Rattle.writer.specs.Book.{contentsBytes, bodiesBytes, bookOf}
-use Rattle.writer.specs.BookLaws.{length-contents}
+use Rattle.writer.specs.BookLaws.{length-contents, largest}
 use Rattle.writer.specs.Write.{written, writeOf, sizeOf}
 
 module _ (t : Table) where
@@ -103,3 +105,19 @@ module _ (t : Table) (d : List ℕ) where
       pick (refused h) = rw (write-refused t d h) (refl, refl)
       pick (short h l) = rw (write-short t d h l) (refl, refl)
       pick (finished h l) = absurd (ne (ap number (write-done t d h l)))
+
+-- ---- "The largest book is 9,220 bytes."
+
+pub size-largest : (t : Table) → sizeOf t .length ≤ 9220
+size-largest t = go (ℕ-discrete (checkOf t .number) 0)
+  where
+    go : Dec (checkOf t .number ≡ 0) → sizeOf t .length ≤ 9220
+    go (yes e) = rw (size-done t e) (largest t (sound-by t e))
+    go (no ne) = rw (size-refused t ne) (omega arith)
+
+pub write-largest : (t : Table) (d : List ℕ) → writeOf t d .0 .length ≤ 9220
+write-largest t d = go (ℕ-discrete (writeOf t d .0 .number) 0)
+  where
+    go : Dec (writeOf t d .0 .number ≡ 0) → writeOf t d .0 .length ≤ 9220
+    go (yes e) = let w = wrote t d e in rw (w .is) (largest t (sound-by t (w .checked)))
+    go (no ne) = omega (arith, untouched t d ne .1)

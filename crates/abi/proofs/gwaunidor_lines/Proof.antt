@@ -2,12 +2,12 @@
 use mathlib.Core.Path.{refl}
 use native.Mathlib.Omega.{arith}
 use borrow.Author.Needs.{needs}
-use Rattle.abi.specs.Printed.{printed-most}
+use Rattle.lines.specs.LinesLaws.{within}
 use Rattle.abi.proofs.gwaunidor_lines.Statement.{statement}
 use Rattle.abi.proofs.gwaunidor_lines.Tie as tie
 
 cast-written : tie.Need-cast-written
-cast-written c = record { fits = omega (arith, printed-most (c .before .before .before .lines .ensures)) }
+cast-written c = record { fits = omega (arith, within (c .before .before .before .lines .ensures) .1) }
 
 returns : tie.Need-returns
 returns c =

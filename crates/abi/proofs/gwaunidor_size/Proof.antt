@@ -4,8 +4,8 @@ use native.Mathlib.Omega.{arith}
 use borrow.Author.Needs.{needs}
 use Rattle.writer.specs.declared.Written.{Written}
 use Rattle.writer.specs.Write.{sizeOf}
+use Rattle.writer.specs.WriteLaws.{size-largest}
 use Rattle.abi.specs.Code.{codeOf}
-use Rattle.abi.specs.Writes.{size-most}
 use Rattle.abi.proofs.gwaunidor_size.Statement.{statement}
 use Rattle.abi.proofs.gwaunidor_size.Tie as tie
 
@@ -13,7 +13,7 @@ cast-size : tie.Need-cast-size
 cast-size c =
     let s = c .before in
     let e = ap (λ (w : Written). w .length) (s .size .ensures) in
-    record { fits = omega (arith, e, size-most (s .before .load .result)) }
+    record { fits = omega (arith, e, size-largest (s .before .load .result)) }
 
 returns : tie.Need-returns
 returns c =

@@ -7,8 +7,8 @@ use borrow.Author.Needs.{needs}
 use Rattle.book.specs.declared.Table.{Table}
 use Rattle.writer.specs.declared.Written.{Written}
 use Rattle.writer.specs.Write.{writeOf}
+use Rattle.writer.specs.WriteLaws.{write-largest}
 use Rattle.abi.specs.Code.{codeOf}
-use Rattle.abi.specs.Writes.{write-most}
 use Rattle.abi.proofs.gwaunidor_write.Statement.{statement}
 use Rattle.abi.proofs.gwaunidor_write.Tie as tie
 
@@ -17,7 +17,7 @@ cast-written c =
     let p = c .before .before .before in
     let l = p .before .before in
     let e = ap (λ (w : Written × List ℕ). w .0 .length) (p .write .ensures) in
-    record { fits = omega (arith, e, write-most (l .load .result) (l .before .before .args .out .now)) }
+    record { fits = omega (arith, e, write-largest (l .load .result) (l .before .before .args .out .now)) }
 
 returns : tie.Need-returns
 returns c =

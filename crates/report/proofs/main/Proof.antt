@@ -8,7 +8,7 @@ use Rattle.report.proofs.main.Statement.{statement}
 use Rattle.report.proofs.main.Tie as tie
 
 array-share-prefix-out : tie.Need-array-share-prefix-out
-array-share-prefix-out c = omega (arith, within (c .before .lines .ensures), c .before .lines .kept .1 .0)
+array-share-prefix-out c = omega (arith, within (c .before .lines .ensures) .0, c .before .lines .kept .1 .0)
 
 slice-aggregate-write-all : tie.Need-slice-aggregate-write-all
 slice-aggregate-write-all c = sym (length-take-le _ _ (array-share-prefix-out (c .before)))
