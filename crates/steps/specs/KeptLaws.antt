@@ -12,20 +12,9 @@ use Rattle.book.specs.Check.{checkOf}
 use Rattle.steps.specs.declared.State.{State}
 use Rattle.steps.specs.declared.Ran.{Ran}
 use Rattle.steps.specs.State.{stateBad, still, zeros}
-use Rattle.steps.specs.Step.{moved, answered, effect, stepNumber, stepOf, postNumber, postOf, freshNumber, freshOf}
+use Rattle.steps.specs.Step.{effect, stepNumber, stepOf, postNumber, postOf, freshNumber, freshOf}
 use Rattle.steps.specs.Run.{ran, next, later, runs, runOf}
-
-module _ (t : Table) (number : ℕ) (given after : State) where
-  answered-kept : (answered t number given after .number ≡ 0 → ⊥) → answered t number given after .state ≡ given
-  unfolding answered
-  answered-kept = pick (notZero (checkOf t .number)) (notZero number)
-    where
-      pick : (b c : Bool)
-          → let m = cond b (moved (checkOf t .number) (checkOf t .place) given)
-          (cond c (moved number 255 given) (moved 0 255 after)) in (m .number ≡ 0 → ⊥) → m .state ≡ given
-      pick true c h = refl
-      pick false true h = refl
-      pick false false h = absurd (h refl)
+use Rattle.steps.specs.StepLaws.{answered-kept}
 
 pub step-kept : (t : Table) (s : State) (r : ℕ) → (stepOf t s r .number ≡ 0 → ⊥) → stepOf t s r .state ≡ s
 unfolding stepOf

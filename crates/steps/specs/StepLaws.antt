@@ -78,6 +78,18 @@ module _ (t : Table) (number : ℕ) (given after : State) where
   unfolding answered
   answered-is sd e = rw (ap (λ (a : Answer). a .number) (sd .checked), e)
 
+  -- refused, the state is the one given
+  pub answered-kept : (answered t number given after .number ≡ 0 → ⊥) → answered t number given after .state ≡ given
+  unfolding answered
+  answered-kept = pick (notZero (checkOf t .number)) (notZero number)
+    where
+      pick : (b c : Bool)
+          → let m = cond b (moved (checkOf t .number) (checkOf t .place) given)
+          (cond c (moved number 255 given) (moved 0 255 after)) in (m .number ≡ 0 → ⊥) → m .state ≡ given
+      pick true c h = refl
+      pick false true h = refl
+      pick false false h = absurd (h refl)
+
   -- Fits is kept, done or refused
   pub answered-fits : Fits t given → (Sound t → number ≡ 0 → Fits t after)
       → Fits t (answered t number given after .state)
