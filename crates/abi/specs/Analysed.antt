@@ -9,15 +9,14 @@ use Rattle.mask.specs.SearchLaws.{lt-or-ge}
 use Rattle.endian.specs.Stands.{Bytes}
 use Rattle.rule.specs.declared.Rule.{Rule}
 use Rattle.rule.specs.Empty.{blankRule}
-use Rattle.book.specs.declared.Table.{Table}
-use Rattle.book.specs.Table.{ruleAt}
-use Rattle.book.specs.Check.{checkOf}
+use Rattle.table.specs.Table.{Table, ruleAt}
+use Rattle.table.specs.Check.{checkOf}
 use Rattle.judging.specs.declared.Report.{Report}
 use Rattle.judging.specs.declared.Bound.{Bound}
 use Rattle.analysis.specs.Says.{ReportSays, BoundSays}
 use Rattle.analysis.specs.SaysLaws.{report-unique, bound-of-unique}
-use Rattle.memory.specs.Memory.{tableFrom}
-use Rattle.memory.specs.Holds.{loaded-held}
+use Rattle.table.specs.Memory.{tableFrom}
+use Rattle.table.specs.Holds.{loaded-held}
 use Rattle.layouts.specs.Layout.{reportBytes}
 use Rattle.layouts.specs.LayoutLaws.{only-zeros}
 use Rattle.abi.specs.Code.{codeOf}

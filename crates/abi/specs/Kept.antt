@@ -8,7 +8,7 @@ use lib.ListN.{length, replicate}
 use Rattle.endian.specs.Bytes.{u16Bytes, u32Bytes, u64Bytes, i64Bytes}
 use Rattle.endian.specs.Joined.{joined}
 use Rattle.endian.specs.Stands.{Bytes}
-use Rattle.book.specs.declared.Table.{Table}
+use Rattle.table.specs.Table.{Table}
 use Rattle.steps.specs.State.{zeros}
 use Rattle.steps.specs.Step.{stepOf, postOf, freshOf}
 use Rattle.steps.specs.Run.{runOf}

@@ -2,7 +2,7 @@
 use mathlib.Core.Path.{_≡_}
 use mathlib.Core.List.{List}
 use Prim.Native.Nat.{ℕ}
-use Rattle.writer.specs.declared.Written.{Written}
+use Rattle.book_write.specs.declared.Written.{Written}
 use Rattle.abi.specs.Code.{codeOf}
 
 -- the buffer, the length of the book and the code

@@ -1,13 +1,13 @@
 // The calls for C and Rust; include/gwaunidor.h describes them for callers.
 ghost use mathlib.Core.Path.{_≡_};
 ghost use Prim.Native.Nat.{_<_};
-ghost use Rattle.book.specs.Check.{checkOf};
-ghost use Rattle.memory.specs.Memory.{tableFrom, tableBytes};
-ghost use Rattle.reader.specs.Read.{readOf};
+ghost use Rattle.table.specs.Check.{checkOf};
+ghost use Rattle.table.specs.Memory.{tableFrom, tableBytes};
+ghost use Rattle.book_read.specs.Read.{readOf};
 ghost use Rattle.steps.specs.Step.{freshOf, stepOf, postOf};
 ghost use Rattle.steps.specs.Run.{runOf};
 ghost use Rattle.states.specs.States.{cellsFrom, stateFrom};
-ghost use Rattle.writer.specs.Write.{writeOf, sizeOf};
+ghost use Rattle.book_write.specs.Write.{writeOf, sizeOf};
 ghost use Rattle.abi.specs.Code.{codeOf};
 ghost use Rattle.abi.specs.Analysed.{ReportCrosses, BoundCrosses};
 ghost use Rattle.abi.specs.Moves.{MovedTo, RanTo};
@@ -40,10 +40,8 @@ pub extern "C" fn gwaunidor_read(book: &[u8], table: &mut [u8; 9092]) -> u32
     ensures { λ r. ⌜ r ≡ codeOf (readOf (now (book .entry)) .number) (readOf (now (book .entry)) .place) ⌝ }
     ensures { λ _. ⌜ now (table .exit) ≡ tableBytes (readOf (now (book .entry)) .table) ⌝ }
 {
-    let r = reader::read(book);
-    let t = r.table;
-    memory::store(t, table);
-    code(r.number, r.place)
+    let read = book_read::read(book, table);
+    code(read.number, read.place)
 }
 
 // The checks that every call on a table makes first.
@@ -51,7 +49,7 @@ pub extern "C" fn gwaunidor_read(book: &[u8], table: &mut [u8; 9092]) -> u32
 pub extern "C" fn gwaunidor_check(table: &[u8; 9092]) -> u32
     ensures { λ r. ⌜ r ≡ codeOf (checkOf (tableFrom (now (table .entry))) .number) (checkOf (tableFrom (now (table .entry))) .place) ⌝ }
 {
-    let a = book::check(memory::load(table));
+    let a = table::check(table);
     code(a.number, a.place)
 }
 
@@ -60,7 +58,7 @@ pub extern "C" fn gwaunidor_check(table: &[u8; 9092]) -> u32
 pub extern "C" fn gwaunidor_report(table: &[u8; 9092], out: &mut [u8; 512]) -> u32
     ensures { λ r. ⌜ ReportCrosses (tableFrom (now (table .entry))) (now (out .exit)) r ⌝ }
 {
-    let judged = analysis::report(memory::load(table));
+    let judged = analysis::report(table);
     layouts::store_report(judged, out);
     code(judged.number, judged.place)
 }
@@ -70,7 +68,7 @@ pub extern "C" fn gwaunidor_report(table: &[u8; 9092], out: &mut [u8; 512]) -> u
 pub extern "C" fn gwaunidor_bound(table: &[u8; 9092], set: u32, bound: &mut u32) -> u32
     ensures { λ r. ⌜ BoundCrosses (tableFrom (now (table .entry))) set (now (bound .exit)) r ⌝ }
 {
-    let b = analysis::bound(memory::load(table), set);
+    let b = analysis::bound(table, set);
     *bound = b.bound;
     code(b.number, b.place)
 }
@@ -94,7 +92,7 @@ pub extern "C" fn gwaunidor_fresh(
     ensures { λ r. ⌜ MovedTo (freshOf (tableFrom (now (table .entry))) (cellsFrom (now (amounts .entry)))) (now (state .exit)) r ⌝ }
 {
     let cells = states::load_cells(amounts);
-    give(machine::fresh(memory::load(table), cells), state)
+    give(machine::fresh(table, cells), state)
 }
 
 // One step on a rule.
@@ -103,7 +101,7 @@ pub extern "C" fn gwaunidor_step(table: &[u8; 9092], state: &mut [u8; 264], rule
     ensures { λ r. ⌜ MovedTo (stepOf (tableFrom (now (table .entry))) (stateFrom (now (state .entry))) rule) (now (state .exit)) r ⌝ }
 {
     let s = states::load_state(state);
-    give(machine::step(memory::load(table), s, rule), state)
+    give(machine::step(table, s, rule), state)
 }
 
 // A value posted to a cell.
@@ -117,7 +115,7 @@ pub extern "C" fn gwaunidor_post(
     ensures { λ r. ⌜ MovedTo (postOf (tableFrom (now (table .entry))) (stateFrom (now (state .entry))) cell value) (now (state .exit)) r ⌝ }
 {
     let s = states::load_state(state);
-    give(machine::post(memory::load(table), s, cell, value), state)
+    give(machine::post(table, s, cell, value), state)
 }
 
 // Steps of the lowest eligible rule until none waits or the budget is used.
@@ -131,7 +129,7 @@ pub extern "C" fn gwaunidor_run(
     ensures { λ r. ⌜ RanTo (runOf (tableFrom (now (table .entry))) (stateFrom (now (state .entry))) budget) (now (state .exit)) (now (steps .exit)) r ⌝ }
 {
     let s = states::load_state(state);
-    let ran = machine::run(memory::load(table), s, budget);
+    let ran = machine::run(table, s, budget);
     let reached = ran.state;
     states::store_state(reached, state);
     *steps = ran.steps;
@@ -143,7 +141,7 @@ pub extern "C" fn gwaunidor_run(
 pub extern "C" fn gwaunidor_write(table: &[u8; 9092], out: &mut [u8], written: &mut u32) -> u32
     ensures { λ r. ⌜ WroteTo (writeOf (tableFrom (now (table .entry))) (now (out .entry))) (now (out .exit)) (now (written .exit)) r ⌝ }
 {
-    let w = writer::write(memory::load(table), out);
+    let w = book_write::write(table, out);
     *written = w.length as u32;
     code(w.number, w.place)
 }
@@ -153,7 +151,7 @@ pub extern "C" fn gwaunidor_write(table: &[u8; 9092], out: &mut [u8], written: &
 pub extern "C" fn gwaunidor_size(table: &[u8; 9092], size: &mut u32) -> u32
     ensures { λ r. ⌜ SizedTo (sizeOf (tableFrom (now (table .entry)))) (now (size .exit)) r ⌝ }
 {
-    let sized = writer::size(memory::load(table));
+    let sized = book_write::size(table);
     *size = sized.length as u32;
     code(sized.number, sized.place)
 }

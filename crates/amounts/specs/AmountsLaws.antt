@@ -157,6 +157,17 @@ module _ (r : Rule) (before : List ℤ) where
       absurd (false≢true
       (sym (some-false (r .a) (λ j. eqb c (assignAt r j .target)) e j m) ∙ eq-eqb c (assignAt r j .target) z)))
 
+  -- a target still holds what it held when its turn comes
+  pub stored-next : twice r ≡ false → (j : ℕ) → j < r .a → assignAt r j .target < length before
+      → at (storedBy (r .assigns) before j) (assignAt r j .target) ≡ at before (assignAt r j .target)
+  unfolding twice
+  stored-next apart j l h =
+      stored-all (r .assigns) before (λ z. z ≡ at before (assignAt r j .target)) (assignAt r j .target) h refl j
+      (λ i m z.
+      absurd (false≢true
+      (sym (some-false j (λ i. sameTarget r i j) (some-false (r .a) (λ j. some j (λ i. sameTarget r i j)) apart j l) i m)
+      ∙ eq-eqb (assignAt r i .target) (assignAt r j .target) (sym z))))
+
   -- a target holds its right side, in whatever order they are stored
   pub stored-at : twice r ≡ false → (i : ℕ) → i < r .a → assignAt r i .target < length before
       → at (stored r before) (assignAt r i .target) ≡ valueOf (assignAt r i) before

@@ -79,4 +79,5 @@ ready n k rules i r l h =
       assigns = c .assigns;
       bounded = λ j m. bounded (assignAt r j) (forms-in r (h .forms) j (le-trans m (c .assigns)) m);
       targets = λ j m. le-trans (targets-below n k r (h .cells) j m) l;
+      apart = h .targets;
     }

@@ -1,18 +1,20 @@
-// One rule over 32 cells of whole pence: its tests, its right sides, storing, and what then differs.
+// One rule, where its bytes lie, over 32 lent cells of whole pence: its tests, its right sides, storing, and what then differs.
 ghost use mathlib.Core.Path.{_≡_};
 ghost use mathlib.Core.Bool.{false};
 ghost use Prim.Native.Nat.{_≤_, _<_};
+ghost use lib.ListN.{length};
 ghost use lib.IntN.{_+ℤ_, _-ℤ_};
 ghost use Rattle.rule.specs.Numbers.{outOfRange};
-ghost use Rattle.amounts.specs.Amounts.{at, compares, holds, anyFalse, scaled, valueOf, anyOut, stored, changed};
-ghost use Rattle.amounts.specs.Ready.{InRange, Bounded, Ready};
+ghost use Rattle.amounts.specs.Amounts.{at, compares, holds, anyFalse, scaled, valueOf};
+ghost use Rattle.amounts.specs.Ready.{InRange, Bounded};
+ghost use Rattle.amounts.specs.Slot.{ruleIn, Slot, Put, Sides, RightSides, Stored};
 use rule::Assign;
-use rule::Rule;
 use rule::Test;
 
 // The amount of cell c; past the last it is 0.
-fn amount(cells: [i64; 32], c: usize) -> i64
-    ensures { λ r. ⌜ r ≡ at cells c ⌝ }
+fn amount(cells: &[i64; 32], c: usize) -> i64
+    requires { ⌜ InRange (now cells) ⌝ }
+    ensures { λ r. ⌜ r ≡ at (now (cells .entry)) c ⌝ }
 {
     if c < 32 {
         return cells[c];
@@ -35,8 +37,9 @@ fn compares(code: u8, v: i64, w: i64) -> bool
 }
 
 // Whether a test holds.
-fn holds(x: Test, cells: [i64; 32]) -> bool
-    ensures { λ r. ⌜ r ≡ holds x cells ⌝ }
+fn holds(x: Test, cells: &[i64; 32]) -> bool
+    requires { ⌜ InRange (now cells) ⌝ }
+    ensures { λ r. ⌜ r ≡ holds x (now (cells .entry)) ⌝ }
 {
     let left = amount(cells, rule::count(x.left));
     if x.kind == 1 {
@@ -45,18 +48,17 @@ fn holds(x: Test, cells: [i64; 32]) -> bool
     compares(x.comparison, left, x.constant)
 }
 
-// Whether any test of the rule is false.
-pub fn any_false(r: Rule, cells: [i64; 32]) -> bool
-    requires { ⌜ Ready r ⌝ }
-    ensures { λ x. ⌜ x ≡ anyFalse r cells ⌝ }
+// Whether any test of the rule at `at` is false.
+pub fn any_false(s: &[u8], at: usize, cells: &[i64; 32]) -> bool
+    requires { ⌜ Slot (now s) at × InRange (now cells) ⌝ }
+    ensures { λ x. ⌜ x ≡ anyFalse (ruleIn (now (s .entry)) at) (now (cells .entry)) ⌝ }
 {
-    let tests = r.tests;
-    let t = rule::count(r.t);
-    let mut found = false;
-    for j in 0..t {
-        found = !holds(tests[j], cells) | found;
+    for j in 0..rule::count(s[at + 8]) {
+        if !holds(parts::read_test(s, at + 12 + 12 * j), cells) {
+            return true;
+        }
     }
-    found
+    false
 }
 
 fn sum(v: i64, w: i64) -> i64
@@ -82,9 +84,9 @@ fn scaled(v: i64, p: u32, q: u32) -> i64
 }
 
 // A right side, from the amounts before the step.
-fn worked(x: Assign, cells: [i64; 32]) -> i64
-    requires { ⌜ Bounded x × InRange cells ⌝ }
-    ensures { λ r. ⌜ r ≡ valueOf x cells ⌝ }
+fn worked(x: Assign, cells: &[i64; 32]) -> i64
+    requires { ⌜ Bounded x × InRange (now cells) ⌝ }
+    ensures { λ r. ⌜ r ≡ valueOf x (now (cells .entry)) ⌝ }
 {
     let a = amount(cells, rule::count(x.a));
     let b = amount(cells, rule::count(x.b));
@@ -100,47 +102,42 @@ fn worked(x: Assign, cells: [i64; 32]) -> i64
     }
 }
 
-// Whether any right side of the rule is out of range.
-pub fn any_out(r: Rule, cells: [i64; 32]) -> bool
-    requires { ⌜ Ready r × InRange cells ⌝ }
-    ensures { λ x. ⌜ x ≡ anyOut r cells ⌝ }
+// The right sides of the rule at `at`, all from the amounts before the step; whether any is out of range.
+pub fn right_sides(s: &[u8], at: usize, cells: &[i64; 32], values: &mut [i64; 8]) -> bool
+    requires { ⌜ Slot (now s) at × InRange (now cells) × (length (now values) ≡ 8) ⌝ }
+    ensures { λ x. ⌜ RightSides (ruleIn (now (s .entry)) at) (now (cells .entry)) (now (values .exit)) x ⌝ }
 {
-    let assigns = r.assigns;
-    let a = rule::count(r.a);
     let mut found = false;
-    for j in 0..a {
-        found = fields::out_of_range(worked(assigns[j], cells)) | found;
+    for j in 0..rule::count(s[at + 9]) {
+        let v = worked(parts::read_assign(s, at + 108 + 20 * j), cells);
+        values[j] = v;
+        found = rule_check::out_of_range(v) | found;
     }
     found
 }
 
-// The cells with all targets stored, every right side from the amounts before.
-pub fn stored(r: Rule, before: [i64; 32]) -> [i64; 32]
-    requires { ⌜ Ready r × InRange before ⌝ }
-    ensures { λ cells. ⌜ cells ≡ stored r before ⌝ }
+// Cell c holds v. The members of m, and c where its amount differs from before.
+pub fn put(cells: &mut [i64; 32], c: usize, v: i64, m: u32) -> u32
+    requires { ⌜ c < 32 ⌝ }
+    ensures { λ q. ⌜ Put (now (cells .entry)) c v m (now (cells .exit)) q ⌝ }
 {
-    let assigns = r.assigns;
-    let a = rule::count(r.a);
-    let mut cells = before;
-    for j in 0..a {
-        let x = assigns[j];
-        let c = rule::count(x.target);
-        cells[c] = worked(x, before);
+    let old = cells[c];
+    cells[c] = v;
+    if (old < v) | (v < old) {
+        return mask::with(m, c);
     }
-    cells
+    m
 }
 
-// The cells whose amount differs.
-pub fn changed(before: [i64; 32], after: [i64; 32]) -> u32
-    ensures { λ m. ⌜ m ≡ changed before after ⌝ }
+// All targets hold the right sides, of which none is written twice; the cells whose amount differs.
+pub fn store(s: &[u8], at: usize, values: &[i64; 8], cells: &mut [i64; 32]) -> u32
+    requires { ⌜ Slot (now s) at × InRange (now cells) × Sides (ruleIn (now s) at) (now cells) (ruleIn (now s) at .a) (now values) ⌝ }
+    ensures { λ m. ⌜ Stored (ruleIn (now (s .entry)) at) (now (cells .entry)) (ruleIn (now (s .entry)) at .a) (now (cells .exit)) m ⌝ }
 {
     let mut m = 0;
-    for c in 0..32 {
-        let v = before[c];
-        let w = after[c];
-        if (v < w) | (w < v) {
-            m = mask::with(m, c);
-        }
+    for j in 0..rule::count(s[at + 9]) {
+        let c = rule::count(s[at + 108 + 20 * j]);
+        m = put(cells, c, values[j], m);
     }
     m
 }

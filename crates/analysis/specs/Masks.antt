@@ -1,12 +1,22 @@
 -- The four rows of masks of a table: all that the analysis knows of it. Assumes nothing.
 use mathlib.Core.Path.{_≡_}
+use mathlib.Core.Bool.{Bool}
+use mathlib.Core.List.{List}
+use Prim.Native.Nat.{ℕ}
+use lib.ListN.{length}
 use Rattle.mask.specs.Mask.{maskOf}
+use Rattle.endian.specs.Little.{byteAt}
+use Rattle.rule.specs.declared.Rule.{Rule}
 use Rattle.rule.specs.Fill.{filled}
 use Rattle.rule.specs.Uses.{reads, writes}
-use Rattle.book.specs.declared.Table.{Table}
-use Rattle.book.specs.Table.{ruleAt, precedesOf}
+use Rattle.table.specs.Table.{Table, ruleAt, precedesOf}
+use Rattle.table.specs.Check.{Sound}
+use Rattle.table.specs.Memory.{tableFrom}
 use Rattle.pairs.specs.declared.Masks.{Masks}
-use Rattle.judging.specs.Cleared.{Orderly}
+
+-- the cells of rule i that a test picks, as a mask
+abbrev pub cellsOf : (Rule → ℕ → Bool) → Table → ℕ → ℕ
+cellsOf f t i = maskOf 32 (f (ruleAt t i))
 
 -- "The editor already keeps four masks a rule (watch, reads, writes, precedes)."
 abbrev pub masksOf : Table → Masks
@@ -15,12 +25,13 @@ masksOf t =
       n = t .n;
       watch = filled 32 0 (λ i. ruleAt t i .watch) (t .n);
       -- "Reads: all cells used in tests and on right sides. Writes: all targets."
-      reads = filled 32 0 (λ i. maskOf 32 (reads (ruleAt t i))) (t .n);
-      writes = filled 32 0 (λ i. maskOf 32 (writes (ruleAt t i))) (t .n);
+      reads = filled 32 0 (cellsOf reads t) (t .n);
+      writes = filled 32 0 (cellsOf writes t) (t .n);
       precedes = precedesOf t;
     }
 
--- they are the table's, and what the judging asks of masks holds of them
-pub record Taken (t : Table) (m : Masks) : Type 0 where
-  pub is : m ≡ masksOf t
-  pub orderly : Orderly m
+-- the bytes of a sound table of n rules
+pub record Lies (s : List ℕ) (n : ℕ) : Type 0 where
+  pub size : length s ≡ 9092
+  pub sound : Sound (tableFrom s)
+  pub count : n ≡ byteAt s 1

@@ -1,18 +1,32 @@
--- The masks of a sound table are orderly. Assumes nothing.
-use mathlib.Core.Path.{sym, subst}
+-- The masks of a sound table are orderly, and what the bytes of one hold. Assumes nothing.
+use mathlib.Core.Path.{_≡_, sym, ap, _∙_, subst}
 use mathlib.Core.Logic.{⊎-elim}
-use Prim.Native.Nat.{ℕ, _^_, _≤_, _<_}
-use lib.ListN.{List·getD-eq-default}
+use mathlib.Core.Bool.{Bool, _&&_}
+use mathlib.Core.List.{List}
+use Prim.Native.Nat.{ℕ, _+_, _^_, _≤_, _<_}
+use native.Mathlib.Nat.{le-trans, le-antisymm}
+use native.Mathlib.Omega.{arith}
+use lib.Dec.{ltb}
+use lib.ListN.{set, List·getD-eq-default}
+use borrow.Author.Tests.{lt-ltb}
 use Rattle.mask.specs.SearchLaws.{lt-or-ge}
+use Rattle.mask.specs.Mask.{has, maskOf}
+use Rattle.mask.specs.Loops.{maskOf-unique}
 use Rattle.graph.specs.GraphLaws.{leads-below}
-use Rattle.rule.specs.Fill.{filled, getD-left, length-filled}
-use Rattle.book.specs.declared.Table.{Table}
-use Rattle.book.specs.Table.{ruleAt}
-use Rattle.book.specs.Check.{Sound}
-use Rattle.book.specs.Sound.{parts}
-use Rattle.book.specs.Before.{irreflexive, precedes-rows, before-iff}
+use Rattle.endian.specs.Stands.{Bytes}
+use Rattle.endian.specs.BytesLaws.{u32-stands}
+use Rattle.rule.specs.declared.Rule.{Rule}
+use Rattle.rule.specs.Fill.{filled, filled-more, getD-left, length-filled}
+use Rattle.rule.specs.NumbersLaws.{Counted, counted}
+use Rattle.table.specs.Table.{Table, ruleAt, watchesOf, precedesOf}
+use Rattle.table.specs.Check.{Sound}
+use Rattle.table.specs.Sound.{parts}
+use Rattle.table.specs.Before.{irreflexive, precedes-rows, before-iff}
+use Rattle.table.specs.Memory.{slotStart, ruleFrom, tableFrom}
+use Rattle.table.specs.ImageLaws.{rule-from}
+use Rattle.pairs.specs.Lent.{masksIn, triggering}
 use Rattle.judging.specs.Cleared.{Past, Orderly}
-use Rattle.analysis.specs.Masks.{masksOf}
+use Rattle.analysis.specs.Masks.{cellsOf, masksOf, Lies}
 
 -- a row that is filled for n rules is 0 from n up
 pub filled-past : (n : ℕ) (f : ℕ → ℕ) → n ≤ 32 → Past n (filled 32 0 f n)
@@ -35,3 +49,61 @@ masks-orderly t s h =
       writes = filled-past (t .n) _ few;
       precedes = filled-past (t .n) _ few;
     }
+
+-- rows that are a table's own
+pub rows-of : (t : Table) {n : ℕ} {watch reads writes precedes : List ℕ} → n ≡ t .n → watch ≡ watchesOf t → reads ≡ masksOf t .reads
+    → writes ≡ masksOf t .writes → precedes ≡ precedesOf t → masksIn n watch reads writes precedes ≡ masksOf t
+rows-of t a b c d e = rw (a, b, c, d, e)
+
+-- one more mask of the cells that a test picks in each rule of a table; r is its rule i
+pub cells-more : (t : Table) (f : Rule → ℕ → Bool) (i : ℕ) → i < 32 → {r : Rule} → r ≡ ruleAt t i → {m : ℕ} → m < 2 ^ 32
+    → ((x : ℕ) → has m x ≡ (ltb x 32 && f r x)) → {q : List ℕ} → q ≡ filled 32 0 (cellsOf f t) i
+    → set q i m ≡ filled 32 0 (cellsOf f t) (i + 1)
+cells-more t f i l {r} same {m} small e h =
+    let is : m ≡ cellsOf f t i =
+    maskOf-unique 32 (f r) m small (λ x k. e x ∙ ap (λ (b : Bool). b && f r x) (lt-ltb x 32 k))
+    ∙ ap (λ (r : Rule). maskOf 32 (f r)) same in
+    rw (h, is) (filled-more 32 0 (cellsOf f t) i l)
+
+-- ---- the bytes of a table
+
+module _ (s : List ℕ) where
+  module _ {n : ℕ} (h : Lies s n) where
+    count-from : n ≡ tableFrom s .n
+    unfolding tableFrom
+    count-from = h .count
+
+    pub few-from : n ≤ 32
+    few-from = subst (λ (x : ℕ). x ≤ 32) (sym count-from) (parts (tableFrom s) (h .sound) .sizes .rules)
+
+    pub counted-from : (i : ℕ) → i < n → Counted (ruleFrom s i)
+    counted-from i l =
+        subst Counted (rule-from s i (le-trans l few-from))
+        (counted (ruleAt (tableFrom s) i)
+        (parts (tableFrom s) (h .sound) .rules i (subst (λ (x : ℕ). i < x) count-from l) .counts))
+
+    -- a row that is filled for all its rules
+    pub row-from : (f : ℕ → ℕ) {i : ℕ} → i ≤ n → n ≤ i → filled 32 0 f i ≡ filled 32 0 f (tableFrom s .n)
+    row-from f l k = ap (filled 32 0 f) (le-antisymm l k ∙ count-from)
+
+    -- rows that are its own
+    pub rows-from : {watch reads writes precedes : List ℕ} → watch ≡ watchesOf (tableFrom s) → reads ≡ masksOf (tableFrom s) .reads
+        → writes ≡ masksOf (tableFrom s) .writes → precedes ≡ precedesOf (tableFrom s)
+        → masksIn n watch reads writes precedes ≡ masksOf (tableFrom s)
+    rows-from = rows-of (tableFrom s) count-from
+
+    pub triggering-from : {watch writes : List ℕ} → watch ≡ watchesOf (tableFrom s) → writes ≡ masksOf (tableFrom s) .writes
+        → triggering n watch writes ≡ triggering (tableFrom s .n) (masksOf (tableFrom s) .watch) (masksOf (tableFrom s) .writes)
+    triggering-from a b = rw (count-from, a, b)
+
+    -- its four rows are orderly: a precedes mask is of four bytes
+    pub orderly-from : Bytes s → Orderly (masksOf (tableFrom s))
+    orderly-from b =
+        masks-orderly (tableFrom s) (h .sound)
+        (λ i l. narrow i (le-trans l (parts (tableFrom s) (h .sound) .sizes .rules)))
+      where
+        narrow : (i : ℕ) → i < 32 → ruleAt (tableFrom s) i .precedes < 2 ^ 32
+        narrow i l =
+            let size = h .size in
+            subst (λ (r : Rule). r .precedes < 2 ^ 32) (sym (rule-from s i l))
+            (u32-stands s b (slotStart i + 4) (omega arith) .small)

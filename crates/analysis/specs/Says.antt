@@ -3,8 +3,8 @@ use mathlib.Core.Path.{_≡_}
 use mathlib.Core.Bool.{false}
 use Prim.Native.Nat.{ℕ}
 use lib.ListN.{replicate}
-use Rattle.book.specs.declared.Table.{Table}
-use Rattle.book.specs.Check.{checkOf}
+use Rattle.table.specs.Table.{Table}
+use Rattle.table.specs.Check.{checkOf}
 use Rattle.judging.specs.declared.Report.{Report}
 use Rattle.judging.specs.declared.Bound.{Bound}
 use Rattle.judging.specs.Report.{Reported}

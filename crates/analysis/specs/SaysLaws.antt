@@ -1,21 +1,31 @@
--- What is promised determines the answers: any two results that meet it are equal. Assumes nothing.
+-- What is promised of a sound table, and that it determines the answers: any two results that meet it are equal. Assumes nothing.
 use mathlib.Core.Path.{_≡_, sym, ap, _∙_, subst}
 use Prim.Native.Nat.{ℕ, _^_, _<_}
 use native.Mathlib.Decide.{ℕ-discrete}
-use Rattle.book.specs.declared.Table.{Table}
-use Rattle.book.specs.Table.{ruleAt}
-use Rattle.book.specs.declared.Answer.{Answer}
-use Rattle.book.specs.Check.{checkOf, Sound}
-use Rattle.book.specs.Sound.{sound-by}
+use Rattle.table.specs.Table.{Table, ruleAt}
+use Rattle.table.specs.declared.Answer.{Answer}
+use Rattle.table.specs.Check.{checkOf, Sound}
+use Rattle.table.specs.Sound.{sound-by}
 use Rattle.judging.specs.declared.Report.{Report}
 use Rattle.judging.specs.declared.Bound.{Bound}
 use Rattle.pairs.specs.declared.Masks.{Masks}
 use Rattle.judging.specs.Report.{Reported}
+use Rattle.judging.specs.Bound.{Bounded}
 use Rattle.judging.specs.ReportLaws.{unique}
 use Rattle.judging.specs.BoundLaws.{bound-unique}
 use Rattle.analysis.specs.Masks.{masksOf}
 use Rattle.analysis.specs.MasksLaws.{masks-orderly}
 use Rattle.analysis.specs.Says.{ReportSays, BoundSays}
+
+-- of a sound table no answer is refused
+unrefused : {t : Table} → Sound t → {A : Type 0} → (checkOf t .number ≡ 0 → ⊥) → A
+unrefused s ne = absurd (ne (ap (λ (x : Answer). x .number) (s .checked)))
+
+pub sound-reports : {t : Table} {r : Report} → Sound t → Reported (masksOf t) r → ReportSays t r
+sound-reports s h = record { refused = unrefused s; done = λ e. h }
+
+pub sound-bounds : {t : Table} {set : ℕ} {b : Bound} → Sound t → Bounded (masksOf t) set b → BoundSays t set b
+sound-bounds s h = record { refused = unrefused s; done = λ e. h }
 
 pub report-unique : (t : Table) (r s : Report) → ReportSays t r → ReportSays t s → r ≡ s
 report-unique t r s p q = go (ℕ-discrete (checkOf t .number) 0)

@@ -9,8 +9,7 @@ use Rattle.mask.specs.Mask.{has, meet, maskOf}
 use Rattle.mask.specs.Loops.{picked-all, maskOf-picked}
 use Rattle.rule.specs.Fill.{getD-filled}
 use Rattle.rule.specs.Uses.{watches, reads, writes}
-use Rattle.book.specs.declared.Table.{Table}
-use Rattle.book.specs.Table.{ruleAt}
+use Rattle.table.specs.Table.{Table, ruleAt}
 use Rattle.pairs.specs.declared.Masks.{Masks}
 use Rattle.pairs.specs.Masks.{mayTrigger, writesInto, commute}
 use Rattle.pairs.specs.MasksLaws.{commute-apart}

@@ -1,38 +1,64 @@
 // The analysis of a table: whether it is cleared, which rules stand in the way, and the step bound of a set.
 ghost use mathlib.Core.Path.{_≡_};
-ghost use Rattle.book.specs.Check.{Sound};
-ghost use Rattle.analysis.specs.Masks.{Taken};
+ghost use lib.ListN.{length};
+ghost use Rattle.table.specs.Check.{Sound};
+ghost use Rattle.table.specs.Memory.{tableFrom};
+ghost use Rattle.judging.specs.Report.{Reported};
+ghost use Rattle.judging.specs.Summary.{reportIn};
+ghost use Rattle.judging.specs.Marking.{zeros};
+ghost use Rattle.judging.specs.Bound.{Bounded};
+ghost use Rattle.analysis.specs.Masks.{masksOf, Lies};
 ghost use Rattle.analysis.specs.Says.{refusedReport, ReportSays, BoundSays};
-use book::Table;
 use judging::Bound;
 use judging::Report;
-use pairs::Masks;
+use judging::Summary;
 
-// The four rows of masks, taken from the table once.
-fn masks(t: Table) -> Masks
-    requires { ⌜ Sound t ⌝ }
-    ensures { λ m. ⌜ Taken t m ⌝ }
+// The cells that each rule of a sound table reads, as a row of masks; 0 past the last rule.
+fn reads(s: &[u8], n: usize) -> [u32; 32]
+    requires { ⌜ Lies (now s) n ⌝ }
+    ensures { λ q. ⌜ q ≡ masksOf (tableFrom (now (s .entry))) .reads ⌝ }
 {
-    let n = rule::count(t.n);
-    let rules = t.rules;
-    let mut watch = [0u32; 32];
-    let mut reads = [0u32; 32];
-    let mut writes = [0u32; 32];
-    let mut precedes = [0u32; 32];
+    let mut q = [0u32; 32];
     for i in 0..n {
-        let r = rules[i];
-        watch[i] = r.watch;
-        reads[i] = uses::reads(r);
-        writes[i] = uses::writes(r);
-        precedes[i] = mask::bits(r.precedes);
+        q[i] = uses::reads(s, 4 + 284 * i, 8, 8);
     }
-    Masks {
-        n: n,
-        watch: watch,
-        reads: reads,
-        writes: writes,
-        precedes: precedes,
+    q
+}
+
+// The cells that each rule writes.
+fn writes(s: &[u8], n: usize) -> [u32; 32]
+    requires { ⌜ Lies (now s) n ⌝ }
+    ensures { λ q. ⌜ q ≡ masksOf (tableFrom (now (s .entry))) .writes ⌝ }
+{
+    let mut q = [0u32; 32];
+    for i in 0..n {
+        q[i] = uses::writes(s, 4 + 284 * i, 8, 8);
     }
+    q
+}
+
+// The report on a sound table: its marks are filled in where all were 0, the rest is given back.
+fn judged(s: &[u8], marks: &mut [u8; 496]) -> Summary
+    requires { ⌜ (length (now s) ≡ 9092) × Sound (tableFrom (now s)) × (now marks ≡ zeros) ⌝ }
+    ensures { λ v. ⌜ Reported (masksOf (tableFrom (now (s .entry)))) (reportIn v (now (marks .exit))) ⌝ }
+{
+    let n = rule::count(s[1]);
+    let watch = table::watches(s, n);
+    let read = reads(s, n);
+    let written = writes(s, n);
+    let precedes = table::precedes(s, n);
+    judging::rows::judged(n, &watch, &read, &written, &precedes, marks)
+}
+
+// The step bound of a set of rules of a sound table.
+fn bounded(s: &[u8], set: u32) -> Bound
+    requires { ⌜ (length (now s) ≡ 9092) × Sound (tableFrom (now s)) ⌝ }
+    ensures { λ b. ⌜ Bounded (masksOf (tableFrom (now (s .entry)))) set b ⌝ }
+{
+    let n = rule::count(s[1]);
+    let watch = table::watches(s, n);
+    let written = writes(s, n);
+    judging::rows::bound(n, &watch, &written, set)
 }
 
 // A refused report.
@@ -53,20 +79,22 @@ pub fn no_report(number: u8, place: u8) -> Report
     }
 }
 
-pub fn report(t: Table) -> Report
-    ensures { λ r. ⌜ ReportSays t r ⌝ }
+pub fn report(table: &[u8; 9092]) -> Report
+    ensures { λ r. ⌜ ReportSays (tableFrom (now (table .entry))) r ⌝ }
 {
-    let a = book::check(t);
+    let a = table::check(table);
     if a.number != 0 {
         return no_report(a.number, a.place);
     }
-    judging::rows::report(masks(t))
+    let mut marks = [0u8; 496];
+    let v = judged(table, &mut marks);
+    judging::whole(v, &marks)
 }
 
-pub fn bound(t: Table, set: u32) -> Bound
-    ensures { λ b. ⌜ BoundSays t set b ⌝ }
+pub fn bound(table: &[u8; 9092], set: u32) -> Bound
+    ensures { λ b. ⌜ BoundSays (tableFrom (now (table .entry))) set b ⌝ }
 {
-    let a = book::check(t);
+    let a = table::check(table);
     if a.number != 0 {
         return Bound {
             number: a.number,
@@ -74,5 +102,5 @@ pub fn bound(t: Table, set: u32) -> Bound
             bound: 0,
         };
     }
-    judging::rows::bound(masks(t), set)
+    bounded(table, set)
 }

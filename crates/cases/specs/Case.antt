@@ -7,8 +7,8 @@ use Prim.Native.String.{String}
 use lib.IntN.{ℤ, pos}
 use lib.ListN.{length, replicate}
 use Rattle.rule.specs.Numbers.{isZero}
-use Rattle.book.specs.declared.Table.{Table}
-use Rattle.reader.specs.Read.{readOf}
+use Rattle.table.specs.Table.{Table}
+use Rattle.book_read.specs.Read.{readOf}
 use Rattle.amounts.specs.Amounts.{scaled}
 use Rattle.steps.specs.declared.State.{State}
 use Rattle.steps.specs.declared.Moved.{Moved}

@@ -12,9 +12,9 @@ use Rattle.graph.specs.Graph as Graph
 use Rattle.endian.specs.Joined as Joined
 use Rattle.rule.specs.Numbers as Numbers
 use Rattle.rule.specs.Uses as Uses
-use Rattle.book.specs.Table as Table
-use Rattle.book.specs.Check as Check
-use Rattle.reader.specs.Read as Read
+use Rattle.table.specs.Table as Table
+use Rattle.table.specs.Check as Check
+use Rattle.book_read.specs.Read as Read
 use Rattle.amounts.specs.Amounts as Amounts
 use Rattle.steps.specs.declared.State.{State}
 use Rattle.steps.specs.State as Fit

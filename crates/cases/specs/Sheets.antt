@@ -7,9 +7,9 @@ use Rattle.mask.specs.Mask as Mask
 use Rattle.graph.specs.Graph as Graph
 use Rattle.rule.specs.Numbers as Numbers
 use Rattle.rule.specs.Uses as Uses
-use Rattle.book.specs.Table as Table
-use Rattle.book.specs.Check as Check
-use Rattle.reader.specs.Read as Read
+use Rattle.table.specs.Table as Table
+use Rattle.table.specs.Check as Check
+use Rattle.book_read.specs.Read as Read
 use Rattle.pairs.specs.Masks as Masks
 use Rattle.pairs.specs.Growing as Growing
 use Rattle.pairs.specs.Settle as Settle

@@ -8,9 +8,9 @@ use borrow.Author.Tests.{eqb-false}
 use Rattle.mask.specs.Mask.{has, beyond}
 use Rattle.weights.specs.Weight.{total, weightOf}
 use Rattle.pairs.specs.declared.Masks.{Masks}
-use Rattle.book.specs.declared.Table.{Table}
-use Rattle.book.specs.Check.{checkOf}
-use Rattle.reader.specs.Read.{readOf}
+use Rattle.table.specs.Table.{Table}
+use Rattle.table.specs.Check.{checkOf}
+use Rattle.book_read.specs.Read.{readOf}
 use Rattle.judging.specs.declared.Report.{Report}
 use Rattle.judging.specs.declared.Bound.{Bound}
 use Rattle.judging.specs.Report.{Reported}

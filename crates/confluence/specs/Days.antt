@@ -5,7 +5,7 @@ use mathlib.Core.Bool.{true}
 use mathlib.Core.List.{List, [], _∷_}
 use Prim.Native.Nat.{ℕ}
 use lib.IntN.{ℤ}
-use Rattle.book.specs.declared.Table.{Table}
+use Rattle.table.specs.Table.{Table}
 use Rattle.judging.specs.declared.Report.{Report}
 use Rattle.analysis.specs.Says.{ReportSays}
 use Rattle.steps.specs.declared.State.{State}

@@ -16,10 +16,10 @@ use Rattle.mask.specs.Mask.{has, beyond, lowest}
 use Rattle.mask.specs.Bits.{has-zero}
 use Rattle.mask.specs.MaskLaws.{empty, ext-iff, lowest-has}
 use Rattle.rule.specs.Numbers.{outOfRange, notZeroZ, slotted}
-use Rattle.book.specs.declared.Table.{Table}
-use Rattle.book.specs.declared.Answer.{Answer}
-use Rattle.book.specs.Check.{checkOf, Sound}
-use Rattle.book.specs.Sound.{parts, sound-by}
+use Rattle.table.specs.Table.{Table}
+use Rattle.table.specs.declared.Answer.{Answer}
+use Rattle.table.specs.Check.{checkOf, Sound}
+use Rattle.table.specs.Sound.{parts, sound-by}
 use Rattle.weights.specs.Weight.{total, weightOf}
 use Rattle.pairs.specs.Masks.{triggers}
 use Rattle.judging.specs.declared.Report.{Report}

@@ -10,11 +10,10 @@ use native.Mathlib.Omega.{arith}
 use lib.ListN.{getD}
 use Rattle.mask.specs.Mask.{has}
 use Rattle.graph.specs.Graph.{Leads}
-use Rattle.book.specs.declared.Table.{Table}
-use Rattle.book.specs.Table.{goesBefore}
-use Rattle.book.specs.Check.{Sound}
-use Rattle.book.specs.Sound.{parts}
-use Rattle.book.specs.Before.{before-iff}
+use Rattle.table.specs.Table.{Table, goesBefore}
+use Rattle.table.specs.Check.{Sound}
+use Rattle.table.specs.Sound.{parts}
+use Rattle.table.specs.Before.{before-iff}
 use Rattle.weights.specs.Weight.{total, weightOf}
 use Rattle.weights.specs.Sums.{total-more}
 use Rattle.weights.specs.Equation.{weighs, total-none}

@@ -15,8 +15,7 @@ use Rattle.mask.specs.Mask as Mask
 use Rattle.mask.specs.Mask.{has}
 use Rattle.mask.specs.Bits.{has-zero}
 use Rattle.rule.specs.Uses.{writes}
-use Rattle.book.specs.declared.Table.{Table}
-use Rattle.book.specs.Table.{ruleAt}
+use Rattle.table.specs.Table.{Table, ruleAt}
 use Rattle.judging.specs.declared.Report.{Report}
 use Rattle.judging.specs.Cleared.{Cleared}
 use Rattle.judging.specs.ClearedLaws.{no-priorities-commute}

@@ -2,8 +2,7 @@
 use mathlib.Core.Path.{_≡_}
 use mathlib.Core.List.{List, [], _∷_}
 use Prim.Native.Nat.{ℕ, _^_, _<_}
-use Rattle.book.specs.declared.Table.{Table}
-use Rattle.book.specs.Table.{ruleAt}
+use Rattle.table.specs.Table.{Table, ruleAt}
 use Rattle.steps.specs.declared.State.{State}
 use Rattle.steps.specs.Step.{stepOf}
 

@@ -6,8 +6,8 @@ use mathlib.Core.List.{List, [], _∷_, _++_}
 use Prim.Native.Nat.{ℕ, suc, _+_, _≤_}
 use native.Mathlib.Omega.{arith}
 use lib.ListN.{length, length-append}
-use Rattle.book.specs.declared.Table.{Table}
-use Rattle.book.specs.Check.{Sound}
+use Rattle.table.specs.Table.{Table}
+use Rattle.table.specs.Check.{Sound}
 use Rattle.judging.specs.declared.Report.{Report}
 use Rattle.analysis.specs.Says.{ReportSays}
 use Rattle.steps.specs.declared.State.{State}

@@ -15,11 +15,10 @@ use Rattle.mask.specs.SearchLaws.{same-test, some-elim, some-intro, Found, and-
 use Rattle.mask.specs.Mask.{has}
 use Rattle.rule.specs.Fill.{upto, length-upto, getD-upto}
 use Rattle.rule.specs.Uses.{assignAt, watches, reads, writes}
-use Rattle.book.specs.declared.Table.{Table}
-use Rattle.book.specs.Table.{ruleAt, goesBefore}
-use Rattle.book.specs.Check.{Sound}
-use Rattle.book.specs.Sound.{parts}
-use Rattle.book.specs.Before.{irreflexive, transitive}
+use Rattle.table.specs.Table.{Table, ruleAt, goesBefore}
+use Rattle.table.specs.Check.{Sound}
+use Rattle.table.specs.Sound.{parts}
+use Rattle.table.specs.Before.{irreflexive, transitive}
 use Rattle.amounts.specs.Amounts.{at, changes, valueOf}
 use Rattle.amounts.specs.Amounts.{differs as amounts-differ, stored as together}
 use Rattle.amounts.specs.Body.{fires, faulty, acted, fires-local, faulty-local}

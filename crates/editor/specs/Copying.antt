@@ -5,24 +5,21 @@ use Prim.Native.Nat.{ℕ, zero, suc, _+_}
 use lib.Dec.{ltb}
 use lib.ListN.{set, replicate}
 use Rattle.pairs.specs.declared.Masks.{Masks}
+use Rattle.pairs.specs.Lent.{masksIn}
 use Rattle.editor.specs.declared.Record.{Record}
 use Rattle.editor.specs.Rows.{recordAt}
 
-abbrev pub masks : ℕ → List ℕ → List ℕ → List ℕ → List ℕ → Masks
-masks n watch reads writes precedes =
-    record { n = n; watch = watch; reads = reads; writes = writes; precedes = precedes }
-
 -- no record yet
 unfoldable pub noRows : Masks
-noRows = masks 0 (replicate 32 0) (replicate 32 0) (replicate 32 0) (replicate 32 0)
+noRows = masksIn 0 (replicate 32 0) (replicate 32 0) (replicate 32 0) (replicate 32 0)
 
 -- record i put in; 33 records stand for all that are too many
 unfoldable pub withRow : Masks → ℕ → Record → Masks
 withRow m i r =
     cond (ltb i 32)
-    (masks (i + 1) (set (m .watch) i (r .watch)) (set (m .reads) i (r .reads)) (set (m .writes) i (r .writes))
+    (masksIn (i + 1) (set (m .watch) i (r .watch)) (set (m .reads) i (r .reads)) (set (m .writes) i (r .writes))
     (set (m .precedes) i (r .precedes)))
-    (masks 33 (m .watch) (m .reads) (m .writes) (m .precedes))
+    (masksIn 33 (m .watch) (m .reads) (m .writes) (m .precedes))
 
 -- the first n records put in
 unfoldable pub copyTo : List Record → ℕ → Masks

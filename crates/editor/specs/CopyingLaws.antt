@@ -10,8 +10,8 @@ use lib.ListN.{length}
 use borrow.Author.Tests.{lt-ltb, le-ltb}
 use Rattle.mask.specs.SearchLaws.{lt-or-ge}
 use Rattle.rule.specs.Fill.{filled-more}
-use Rattle.book.specs.declared.Answer.{Answer}
-use Rattle.book.specs.Check.{answer}
+use Rattle.table.specs.declared.Answer.{Answer}
+use Rattle.table.specs.Check.{answer}
 use Rattle.pairs.specs.declared.Masks.{Masks}
 use Rattle.judging.specs.declared.Report.{Report}
 use Rattle.analysis.specs.Says.{refusedReport}
@@ -56,7 +56,7 @@ copy-many rs (suc n) l = rw (le-ltb n 32 (omega (arith, l)))
 
 -- ---- what the analysis asks
 
-first-padded : (rs : List Record) (n : ℕ) → Padded (firstMasks rs n)
+pub first-padded : (rs : List Record) (n : ℕ) → Padded (firstMasks rs n)
 first-padded rs n =
     record { watch = filled-past n _; reads = filled-past n _; writes = filled-past n _; precedes = filled-past n _ }
 
@@ -82,13 +82,21 @@ too-many : (m : Masks) → 32 < m .n → checkRows m ≡ answer 3 255
 unfolding checkRows
 too-many m l = rw (lt-ltb 32 (m .n) l)
 
+pub many-refused : (m : Masks) (r : Report) → 32 < m .n → r ≡ refusedReport 3 255 → RowsSay m r
+many-refused m r l e =
+    let a = too-many m l in
+    record {
+      refused = λ ne. e ∙ ap (λ (a : Answer). refusedReport (a .number) (a .place)) (sym a);
+      done = λ z. let y : _≡_ {A = ℕ} 3 0 = sym (ap (λ (a : Answer). a .number) a) ∙ z in absurd (omega (arith, y));
+    }
+
 many-say : (m k : Masks) (r : Report) → 32 < m .n → 32 < k .n → RowsSay m r → RowsSay k r
 many-say m k r l h s =
-    let e = too-many m l ∙ sym (too-many k h) in
-    record {
-      refused = λ ne. s .refused (λ z. ne (sym (ap (λ (a : Answer). a .number) e) ∙ z)) ∙ ap (λ (a : Answer). refusedReport (a .number) (a .place)) e;
-      done = λ z. let y : _≡_ {A = ℕ} 3 0 = sym (ap (λ (a : Answer). a .number) (too-many k h)) ∙ z in absurd (omega (arith, y));
-    }
+    let e = too-many m l in
+    many-refused k r h
+    (s .refused (λ z.
+    let y : _≡_ {A = ℕ} 3 0 = sym (ap (λ (a : Answer). a .number) e) ∙ z in absurd (omega (arith, y)))
+    ∙ ap (λ (a : Answer). refusedReport (a .number) (a .place)) e)
 
 pub row-says : (rs : List Record) (r : Report) → RowsSay (copyTo rs (length rs)) r → RowsSay (rowMasks rs) r
 row-says rs r s =

@@ -2,7 +2,7 @@
 -- Assumes nothing.
 use mathlib.Core.Path.{_≡_}
 use mathlib.Core.Bool.{Bool, cond}
-use mathlib.Core.List.{List}
+use mathlib.Core.List.{List, []}
 use Prim.Native.Nat.{ℕ, _^_, _≤_, _<_}
 use lib.Dec.{ltb}
 use lib.ListN.{getD, length}
@@ -10,9 +10,10 @@ use Rattle.mask.specs.Search.{some, least}
 use Rattle.mask.specs.Mask.{beyond}
 use Rattle.graph.specs.Graph.{leads}
 use Rattle.rule.specs.Fill.{filled}
-use Rattle.book.specs.declared.Answer.{Answer}
-use Rattle.book.specs.Check.{answer, done}
+use Rattle.table.specs.declared.Answer.{Answer}
+use Rattle.table.specs.Check.{answer, done}
 use Rattle.pairs.specs.declared.Masks.{Masks}
+use Rattle.pairs.specs.Lent.{masksIn}
 use Rattle.judging.specs.declared.Report.{Report}
 use Rattle.judging.specs.Cleared.{Past}
 use Rattle.judging.specs.Report.{Reported}
@@ -73,6 +74,10 @@ checkRows m =
 pub record Checked (m : Masks) (a : Answer) : Type 0 where
   pub is : a ≡ checkRows m
   pub named : a .number ≡ 0 → (i : ℕ) → i < m .n → getD (m .precedes) i 0 < 2 ^ m .n
+
+-- a row of which no more is known than the precedes masks: all that the numbers ask for
+abbrev pub preceding : ℕ → List ℕ → Masks
+preceding n precedes = masksIn n [] [] [] precedes
 
 -- ---- the report
 

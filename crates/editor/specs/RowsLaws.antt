@@ -12,13 +12,18 @@ use borrow.Author.Tests.{ltb-false}
 use Rattle.mask.specs.SearchLaws.{some-false, lt-or-ge}
 use Rattle.graph.specs.Graph.{leads, Rows}
 use Rattle.graph.specs.GraphLaws.{leads-iff, leads-below}
-use Rattle.book.specs.declared.Answer.{Answer}
-use Rattle.book.specs.Check.{answer, done}
+use Rattle.table.specs.declared.Answer.{Answer}
+use Rattle.table.specs.Check.{answer, done}
 use Rattle.pairs.specs.declared.Masks.{Masks}
 use Rattle.judging.specs.declared.Report.{Report}
 use Rattle.judging.specs.Cleared.{Orderly}
 use Rattle.judging.specs.ReportLaws.{unique}
-use Rattle.editor.specs.Rows.{Padded, firstBeyond, cyclic, checkRows, RowsSay}
+use Rattle.editor.specs.Rows.{Padded, firstBeyond, cyclic, checkRows, Checked, preceding, RowsSay}
+
+-- the numbers ask for the precedes masks alone
+pub checked-in : (m : Masks) {a : Answer} → Checked (preceding (m .n) (m .precedes)) a → Checked m a
+unfolding checkRows firstBeyond cyclic
+checked-in m h = record { is = h .is; named = h .named }
 
 -- no number applies
 pub record Plain (m : Masks) : Type 0 where

@@ -1,24 +1,23 @@
 -- For a sound table, the report of its own rows is the report of the table. Assumes nothing.
-use mathlib.Core.Path.{_≡_, refl, sym, ap, _∙_, subst}
+use mathlib.Core.Path.{_≡_, sym, ap, _∙_, subst}
 use mathlib.Core.Bool.{false}
 use mathlib.Core.List.{List}
-use Prim.Native.Nat.{ℕ, zero, suc, _^_, _≤_, _<_}
-use native.Mathlib.Nat.{le-trans, le-refl, le-suc}
+use Prim.Native.Nat.{ℕ, _^_, _≤_, _<_}
+use native.Mathlib.Nat.{le-trans, le-refl}
 use lib.ListN.{getD}
 use lib.Pow.{pow-mono}
 use borrow.Author.Tests.{le-ltb, lt-leb}
 use Rattle.mask.specs.SearchLaws.{least-none}
 use Rattle.mask.specs.Mask.{beyond, maskOf}
 use Rattle.mask.specs.MaskLaws.{beyond-law}
-use Rattle.rule.specs.Fill.{upto, length-upto, getD-upto}
+use Rattle.rule.specs.Fill.{upto-same, upto, length-upto, getD-upto}
 use Rattle.rule.specs.Uses.{reads, writes}
-use Rattle.book.specs.declared.Table.{Table}
-use Rattle.book.specs.declared.Answer.{Answer}
-use Rattle.book.specs.Table.{ruleAt, precedesOf, goesBefore}
-use Rattle.book.specs.Check as Check
-use Rattle.book.specs.Check.{done, Sound}
-use Rattle.book.specs.Sound.{parts}
-use Rattle.book.specs.Before.{precedes-rows}
+use Rattle.table.specs.Table.{Table, ruleAt, precedesOf, goesBefore}
+use Rattle.table.specs.declared.Answer.{Answer}
+use Rattle.table.specs.Check as Check
+use Rattle.table.specs.Check.{done, Sound}
+use Rattle.table.specs.Sound.{parts}
+use Rattle.table.specs.Before.{precedes-rows}
 use Rattle.pairs.specs.declared.Masks.{Masks}
 use Rattle.judging.specs.declared.Report.{Report}
 use Rattle.judging.specs.ReportLaws.{unique}
@@ -35,10 +34,6 @@ recordOf t i =
 
 abbrev pub rowsOf : Table → List Record
 rowsOf t = upto (t .n) (recordOf t)
-
-upto-same : {A : Type 0} (n : ℕ) (f g : ℕ → A) → ((i : ℕ) → i < n → f i ≡ g i) → upto n f ≡ upto n g
-upto-same zero f g h = refl
-upto-same (suc n) f g h = rw (upto-same n f g (λ i l. h i (le-trans l (le-suc n))), h n (le-refl (suc n)))
 
 module _ (t : Table) where
   abbrev own : (Record → ℕ) → ℕ → ℕ

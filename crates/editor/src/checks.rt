@@ -1,17 +1,14 @@
-// The numbers 3, 6 and 10 of a row of records.
+// The numbers 3, 6 and 10 of a row of n records: they ask for its precedes masks alone.
 ghost use mathlib.Core.Path.{_≡_};
 ghost use Prim.Native.Nat.{_≤_};
-ghost use Rattle.editor.specs.Rows.{FirstBeyond, cyclic, Checked};
-use book::Answer;
-use pairs::Masks;
+ghost use Rattle.editor.specs.Rows.{preceding, FirstBeyond, Checked};
+use table::Answer;
 
 // 6: the first record with a precedes bit beyond the row, or the number of records.
-fn first_beyond(m: Masks) -> usize
-    requires { ⌜ m .n ≤ 32 ⌝ }
-    ensures { λ r. ⌜ FirstBeyond m r ⌝ }
+fn first_beyond(n: usize, precedes: &[u32; 32]) -> usize
+    requires { ⌜ n ≤ 32 ⌝ }
+    ensures { λ r. ⌜ FirstBeyond (preceding n (now (precedes .entry))) r ⌝ }
 {
-    let n = m.n;
-    let precedes = m.precedes;
     for i in 0..n {
         if mask::beyond(mask::bits(precedes[i]), n) {
             return i;
@@ -20,36 +17,25 @@ fn first_beyond(m: Masks) -> usize
     n
 }
 
-// 10: whether the priorities have a cycle.
-fn cyclic(m: Masks) -> bool
-    requires { ⌜ m .n ≤ 32 ⌝ }
-    ensures { λ r. ⌜ r ≡ cyclic m ⌝ }
-{
-    let n = m.n;
-    let precedes = m.precedes;
-    let on = graph::loops(graph::closure(precedes, n));
-    mask::meets(on, mask::below(n))
-}
-
 // The first number that applies, with its place.
-pub fn check(m: Masks) -> Answer
-    ensures { λ a. ⌜ Checked m a ⌝ }
+pub fn check(n: usize, precedes: &[u32; 32]) -> Answer
+    ensures { λ a. ⌜ Checked (preceding n (now (precedes .entry))) a ⌝ }
 {
-    let n = m.n;
     if 32 < n {
         return Answer {
             number: 3,
             place: 255,
         };
     }
-    let i = first_beyond(m);
+    let i = first_beyond(n, precedes);
     if i < n {
         return Answer {
             number: 6,
             place: i as u8,
         };
     }
-    if cyclic(m) {
+    let rows = *precedes;
+    if table::row_cyclic(rows, n) {
         return Answer {
             number: 10,
             place: 255,

@@ -1,10 +1,9 @@
 // The editor's row: a lent slice of four-mask records is copied into arrays, checked, and analysed as a table's masks are.
 ghost use mathlib.Core.Path.{_≡_};
+ghost use Rattle.pairs.specs.Lent.{masksIn};
 ghost use Rattle.editor.specs.Rows.{rowMasks, Padded, RowsSay};
 ghost use Rattle.editor.specs.Copying.{noRows, withRow};
-ghost use Rattle.editor.specs.Bytes.{recordIn, rowsIn};
-ghost use Prim.Native.Nat.{_+_, _*_, _≤_};
-ghost use lib.ListN.{length};
+ghost use Rattle.editor.specs.Bytes.{rowsIn};
 
 mod checks;
 
@@ -50,16 +49,36 @@ fn with_row(m: Masks, i: usize, r: Record) -> Masks
     o
 }
 
+// The report of n records whose masks are lent.
+fn judged(
+    n: usize,
+    watch: &[u32; 32],
+    reads: &[u32; 32],
+    writes: &[u32; 32],
+    precedes: &[u32; 32],
+) -> Report
+    requires { ⌜ Padded (masksIn n (now watch) (now reads) (now writes) (now precedes)) ⌝ }
+    ensures { λ r. ⌜ RowsSay (masksIn n (now (watch .entry)) (now (reads .entry)) (now (writes .entry)) (now (precedes .entry))) r ⌝ }
+{
+    let a = checks::check(n, precedes);
+    if a.number != 0 {
+        return analysis::no_report(a.number, a.place);
+    }
+    let mut marks = [0u8; 496];
+    let v = judging::rows::judged(n, watch, reads, writes, precedes, &mut marks);
+    judging::whole(v, &marks)
+}
+
 // The report of records in arrays.
 fn analysed(m: Masks) -> Report
     requires { ⌜ Padded m ⌝ }
     ensures { λ r. ⌜ RowsSay m r ⌝ }
 {
-    let a = checks::check(m);
-    if a.number != 0 {
-        return analysis::no_report(a.number, a.place);
-    }
-    judging::rows::report(m)
+    let watch = m.watch;
+    let reads = m.reads;
+    let writes = m.writes;
+    let precedes = m.precedes;
+    judged(m.n, &watch, &reads, &writes, &precedes)
 }
 
 // The report of a row of records, of any length.
@@ -75,31 +94,17 @@ pub fn report(rows: &[Record]) -> Report
     analysed(m)
 }
 
-fn record_at(s: &[u8], i: usize) -> Record
-    requires { ⌜ 16 * i + 16 ≤ length (now s) ⌝ }
-    ensures { λ r. ⌜ r ≡ recordIn (now (s .entry)) i ⌝ }
-{
-    let at = 16 * i;
-    let watch = endian::u32_at(s, at);
-    let reads = endian::u32_at(s, at + 4);
-    let writes = endian::u32_at(s, at + 8);
-    let precedes = endian::u32_at(s, at + 12);
-    Record {
-        watch: watch,
-        reads: reads,
-        writes: writes,
-        precedes: precedes,
-    }
-}
-
 // The report of a row that crosses as bytes, 16 for each record.
 pub fn report_of_bytes(s: &[u8]) -> Report
     ensures { λ r. ⌜ RowsSay (rowMasks (rowsIn (now (s .entry)))) r ⌝ }
 {
     let n = s.len() / 16;
-    let mut m = none();
-    for i in 0..n {
-        m = with_row(m, i, record_at(s, i));
+    if 32 < n {
+        return analysis::no_report(3, 255);
     }
-    analysed(m)
+    let watch = parts::column(s, 0, 16, n);
+    let reads = parts::column(s, 4, 16, n);
+    let writes = parts::column(s, 8, 16, n);
+    let precedes = parts::column(s, 12, 16, n);
+    judged(n, &watch, &reads, &writes, &precedes)
 }

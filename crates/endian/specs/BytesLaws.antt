@@ -128,3 +128,21 @@ module _ (s : List ℕ) where
     pub i64-stands : (i : ℕ) → i + 8 ≤ length s → Stands s i (i64Bytes (i64At s i))
     unfolding i64Bytes
     i64-stands i h = let r = u64-stands i h in rw (unsigned-signed (u64At s i) (r .small)) (r .stands)
+
+-- eight bytes that are the same are the same number
+pub word-same : (x s : List ℕ) (k p : ℕ) → ((j : ℕ) → j < 8 → getD x (k + j) 0 ≡ byteAt s (p + j)) → u64At x k ≡ u64At s p
+word-same x s k p h =
+    omega (
+      arith,
+      at k p 0 (omega arith) (omega arith) (omega arith),
+      at (k + 1) (p + 1) 1 (omega arith) (omega arith) (omega arith),
+      at (k + 2) (p + 2) 2 (omega arith) (omega arith) (omega arith),
+      at (k + 2 + 1) (p + 2 + 1) 3 (omega arith) (omega arith) (omega arith),
+      at (k + 4) (p + 4) 4 (omega arith) (omega arith) (omega arith),
+      at (k + 4 + 1) (p + 4 + 1) 5 (omega arith) (omega arith) (omega arith),
+      at (k + 4 + 2) (p + 4 + 2) 6 (omega arith) (omega arith) (omega arith),
+      at (k + 4 + 2 + 1) (p + 4 + 2 + 1) 7 (omega arith) (omega arith) (omega arith),
+    )
+  where
+    at : (a b j : ℕ) → j < 8 → a ≡ k + j → b ≡ p + j → getD x a 0 ≡ byteAt s b
+    at a b j l ea eb = ap (λ (y : ℕ). getD x y 0) ea ∙ h j l ∙ ap (byteAt s) (sym eb)

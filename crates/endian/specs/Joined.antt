@@ -1,11 +1,11 @@
 -- Runs of bytes one after another. Assumes nothing.
 use mathlib.Core.Path.{_≡_, refl, sym, ap, ap₂, _∙_}
-use mathlib.Core.List.{List, [], _++_}
-use Prim.Native.Nat.{ℕ, zero, suc, _+_, _*_, _≤_, _<_}
-use native.Mathlib.Nat.{mul-zero, mul-suc}
+use mathlib.Core.List.{List, [], _++_, append-assoc, append-nil}
+use Prim.Native.Nat.{ℕ, zero, suc, _+_, _-_, _*_, _≤_, _<_}
+use native.Mathlib.Nat.{add-zero, add-suc, mul-zero, mul-suc}
 use native.Mathlib.Numerals.{add-one}
 use native.Mathlib.Omega.{arith}
-use lib.ListN.{length, length-append}
+use lib.ListN.{length, replicate, length-append, replicate-append-replicate}
 use borrow.Author.Count.{below-more}
 use Rattle.endian.specs.Put.{put, put-next}
 use Rattle.endian.specs.Stands.{Stands, stands-nil, stands-append, stands-left, stands-right}
@@ -38,6 +38,25 @@ pub joined-same : (n : ℕ) (f g : ℕ → List ℕ) → ((j : ℕ) → j < n �
 unfolding joined
 joined-same zero f g e = refl
 joined-same (suc n) f g e = ap₂ _++_ (joined-same n f g (λ j l. e j (omega arith))) (e n (omega arith))
+
+-- k runs more, all of zeros
+zeros-more : (w t k : ℕ) (f : ℕ → List ℕ) → ((j : ℕ) → t ≤ j → j < t + k → f j ≡ replicate w 0)
+    → joined (t + k) f ≡ joined t f ++ replicate (w * k) 0
+unfolding joined
+zeros-more w t zero f z = rw (add-zero, mul-zero) (sym (append-nil (joined t f)))
+zeros-more w t (suc k) f z =
+    ap (λ (n : ℕ). joined n f) (add-suc t k)
+    ∙ ap₂ _++_ (zeros-more w t k f (λ j g m. z j g (omega arith))) (z (t + k) (omega arith) (omega arith))
+    ∙ append-assoc (joined t f) (replicate (w * k) 0) (replicate w 0)
+    ∙ ap (λ (l : List ℕ). joined t f ++ l) (replicate-append-replicate (w * k) w 0)
+    ∙ ap (λ (n : ℕ). joined t f ++ replicate n 0) (sym (mul-suc w k))
+
+-- n runs of which those from t up are zeros
+pub joined-rest : (w n t : ℕ) (f : ℕ → List ℕ) → t ≤ n → ((j : ℕ) → t ≤ j → j < n → f j ≡ replicate w 0)
+    → joined n f ≡ joined t f ++ replicate (w * (n - t)) 0
+joined-rest w n t f l z =
+    let e : n ≡ t + (n - t) = omega arith in
+    ap (λ (k : ℕ). joined k f) e ∙ zeros-more w t (n - t) f (λ j g m. z j g (omega arith))
 
 -- they stand at a place exactly when each stands at its own
 module _ (s : List ℕ) (i : ℕ) (f : ℕ → List ℕ) where

@@ -4,8 +4,8 @@ use mathlib.Core.List.{List, [], _∷_, _++_}
 use Prim.Native.Nat.{ℕ, zero, suc, _+_, _≤_, _<_}
 use native.Mathlib.Nat.{add-assoc, add-zero, zero-add}
 use native.Mathlib.Omega.{arith}
-use lib.ListN.{length, getD, length-append, List·getD-append}
-use lib.Seq.{getD-append-add, ext-getD}
+use lib.ListN.{length, getD, take, drop, length-append, length-drop, List·getD-append}
+use lib.Seq.{getD-append-add, getD-take, getD-drop, length-take-le, ext-getD}
 
 -- from i on, s has the bytes bs
 pub record Stands (s : List ℕ) (i : ℕ) (bs : List ℕ) : Type 0 where
@@ -83,3 +83,10 @@ module _ (s : List ℕ) where
 
   pub stands-self : Stands s 0 s
   stands-self = record { inside = omega arith; same = λ j l. ap (λ (x : ℕ). getD s x 0) (zero-add j) }
+
+-- what stands at a place is that part of the bytes
+pub part-stands : (s : List ℕ) (p n : ℕ) (bs : List ℕ) → length bs ≡ n → Stands s p bs → bs ≡ take n (drop p s)
+part-stands s p n bs e h =
+    let l : length (take n (drop p s)) ≡ n = length-take-le n (drop p s) (omega (arith, h .inside, length-drop p s)) in
+    ext-getD 0 bs (take n (drop p s)) (e ∙ sym l)
+    (λ j g. sym (getD-take n (drop p s) j 0 (omega arith) ∙ getD-drop p s j 0 ∙ h .same j g))

@@ -2,7 +2,7 @@
 ghost use mathlib.Core.Path.{_≡_};
 ghost use mathlib.Core.List.{[], _∷_};
 ghost use Prim.Native.Nat.{_+_, _≤_, _<_};
-ghost use lib.ListN.{length};
+ghost use lib.ListN.{length, replicate};
 ghost use Rattle.endian.specs.Little.{u16At, u32At, u64At, i64At, signed};
 ghost use Rattle.endian.specs.Put.{put};
 ghost use Rattle.endian.specs.Bytes.{u16Bytes, u32Bytes, u64Bytes, i64Bytes, unsigned};
@@ -31,7 +31,7 @@ pub fn u32_at(s: &[u8], at: usize) -> u32
     a + 65536 * b
 }
 
-fn u64_at(s: &[u8], at: usize) -> u64
+pub fn u64_at(s: &[u8], at: usize) -> u64
     requires { ⌜ at + 8 ≤ length (now s) ⌝ }
     ensures { λ r. ⌜ r ≡ u64At (now (s .entry)) at ⌝ }
 {
@@ -118,5 +118,15 @@ pub fn put_bytes(out: &mut [u8], at: usize, s: &[u8])
 {
     for j in 0..s.len() {
         out[at + j] = s[j];
+    }
+}
+
+// n zeros.
+pub fn put_zeros(out: &mut [u8], at: usize, n: usize)
+    requires { ⌜ at + n ≤ length (now out) ⌝ }
+    ensures { λ _. ⌜ now (out .exit) ≡ put (now (out .entry)) at (replicate n 0) ⌝ }
+{
+    for j in 0..n {
+        out[at + j] = 0;
     }
 }

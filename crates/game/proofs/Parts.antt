@@ -1,29 +1,45 @@
--- What the walks of `step` and `post` share: machine values, and the parts of what the by-value call gave back.
+-- What the walks by hand share: the lent table, machine values, and the parts of what the by-value call gave back.
 -- Assumes nothing.
 use mathlib.Core.Path.{refl}
-use Prim.Native.Nat.{_<_, _^_}
-use mathlib.Core.List.{[], _∷_}
-use mir.Val.{Val}
+use Prim.Native.Nat.{ℕ, _<_, _^_}
+use mathlib.Core.List.{[], _∷_, List}
+use mir.Syntax.{named}
+use mir.Val.{Val, vptr}
+use base.Fml.{Lft, Fml}
+use denote.RattleType.{RattleType}
 use denote.Laws.{Is}
+use denote.Builtin.{Array, u8}
+use denote.Ref.{RefT, ShrRef}
 use denote.Struct.Laws as LL
-use Rattle.book.specs.declared.Table.{Table}
+use Rattle.table.specs.declared.Answer.{Answer}
+use Rattle.table.specs.Memory.{tableFrom}
+use Rattle.table.specs.Table.{Table}
 use Rattle.steps.specs.declared.State.{State}
 use Rattle.steps.specs.declared.Moved.{Moved}
-use Rattle.book.specs.declared.Answer.{Answer}
-use Rattle.game.specs.Lent.{answerOf}
-use Rattle.book.proofs.Table as B
-use Rattle.book.proofs.Table.Laws as B′
 use Rattle.steps.proofs.State as T
 use Rattle.steps.proofs.State.Laws as T′
 use Rattle.steps.proofs.Moved as S
 use Rattle.steps.proofs.Moved.Laws as S′
-use Rattle.book.proofs.Answer as N
-use Rattle.book.proofs.Answer.Laws as N′
+use Rattle.table.proofs.Answer as N
+use Rattle.table.proofs.Answer.Laws as N′
 
--- machine values: of a table, of a state, of an answer
-abbrev pub book : Table → Val
-book = LL.val B.the-type B′.the-laws
+-- the lent table: its type, where it lies, what is owned of it, and the table that its bytes hold
+abbrev pub image : RattleType
+image = Array u8 tt 9092
 
+abbrev pub Lent : Lft → RattleType
+Lent κ = ShrRef (named 0) κ image
+
+abbrev pub place : RefT (List ℕ) → Val
+place t = vptr (t .ptr .0) (t .ptr .1)
+
+abbrev pub Shown : Lft → RefT (List ℕ) → Fml
+Shown κ t = Lent κ .own t (place t ∷ [])
+
+abbrev pub book : RefT (List ℕ) → Table
+book t = tableFrom (t .now)
+
+-- machine values: of a state, of an answer
 abbrev pub mach : State → Val
 mach = LL.val T.the-type T′.the-laws
 
@@ -40,5 +56,5 @@ number-fits m v is = LL.owed S.the-type S′.the-laws m _ is .0 .1
 pub place-fits : (m : Moved) (v : Val) → Is S.the-row m (v ∷ []) → m .place < 2 ^ 8
 place-fits m v is = LL.owed S.the-type S′.the-laws m _ is .1 .0 .1
 
-pub answered : (m : Moved) (v : Val) → Is S.the-row m (v ∷ []) → Is N.the-row (answerOf m) (told (answerOf m) ∷ [])
-answered m v is = LL.owes N.the-type N′.the-laws (answerOf m) ((refl, number-fits m v is), ((refl, place-fits m v is), tt))
+pub answered : (a : Answer) → a .number < 2 ^ 8 → a .place < 2 ^ 8 → Is N.the-row a (told a ∷ [])
+answered a number place = LL.owes N.the-type N′.the-laws a ((refl, number), ((refl, place), tt))

@@ -1,6 +1,6 @@
 -- What comes back from a call on a lent state: the number with its place. Assumes nothing.
-use Rattle.book.specs.declared.Answer.{Answer}
-use Rattle.book.specs.Check.{answer}
+use Rattle.table.specs.declared.Answer.{Answer}
+use Rattle.table.specs.Check.{answer}
 use Rattle.steps.specs.declared.Moved.{Moved}
 
 abbrev pub answerOf : Moved → Answer

@@ -1,7 +1,7 @@
 -- The game loop: what the next rule to step says of the run that is left. Assumes nothing.
 use mathlib.Core.Path.{_≡_}
 use Prim.Native.Nat.{ℕ, _-_, _≤_, _<_}
-use Rattle.book.specs.declared.Table.{Table}
+use Rattle.table.specs.Table.{Table}
 use Rattle.steps.specs.declared.State.{State}
 use Rattle.steps.specs.Step.{stepOf}
 use Rattle.steps.specs.Run.{later, runOf}

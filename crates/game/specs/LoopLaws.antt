@@ -6,9 +6,9 @@ use native.Mathlib.Decide.{ℕ-discrete}
 use native.Mathlib.Omega.{arith}
 use borrow.Author.Tests.{ne-eqb}
 use Rattle.rule.specs.Numbers.{notZero}
-use Rattle.book.specs.declared.Table.{Table}
-use Rattle.book.specs.declared.Answer.{Answer}
-use Rattle.book.specs.Check.{checkOf, Sound}
+use Rattle.table.specs.Table.{Table}
+use Rattle.table.specs.declared.Answer.{Answer}
+use Rattle.table.specs.Check.{checkOf, Sound}
 use Rattle.steps.specs.declared.State.{State}
 use Rattle.steps.specs.declared.Ran.{Ran}
 use Rattle.steps.specs.declared.Moved.{Moved}

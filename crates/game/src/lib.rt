@@ -1,19 +1,19 @@
 // The game loop: a single run state, lent to be changed on the spot.
 ghost use mathlib.Core.Path.{_≡_};
+ghost use Rattle.table.specs.Memory.{tableFrom};
 ghost use Rattle.steps.specs.Step.{stepOf, postOf};
 ghost use Rattle.steps.specs.Run.{ran, runOf};
 ghost use Rattle.game.specs.Lent.{answerOf};
 ghost use Rattle.game.specs.Loop.{Due};
-use book::Answer;
-use book::Table;
 use steps::Ran;
 use steps::State;
+use table::Answer;
 
 // One step on r: its state is stored where it is done; where it is refused, the state is the one given.
-pub fn step(t: Table, s: &mut State, r: u32) -> Answer
-    ensures { λ a. ⌜ (now (s .exit) ≡ stepOf t (now (s .entry)) r .state) × (a ≡ answerOf (stepOf t (now (s .entry)) r)) ⌝ }
+pub fn step(table: &[u8; 9092], s: &mut State, r: u32) -> Answer
+    ensures { λ a. ⌜ (now (s .exit) ≡ stepOf (tableFrom (now (table .entry))) (now (s .entry)) r .state) × (a ≡ answerOf (stepOf (tableFrom (now (table .entry))) (now (s .entry)) r)) ⌝ }
 {
-    let done = machine::step(t, *s, r);
+    let done = machine::step(table, *s, r);
     *s = done.state;
     Answer {
         number: done.number,
@@ -22,10 +22,10 @@ pub fn step(t: Table, s: &mut State, r: u32) -> Answer
 }
 
 // A value posted to a cell, in the same way.
-pub fn post(t: Table, s: &mut State, cell: u32, value: i64) -> Answer
-    ensures { λ a. ⌜ (now (s .exit) ≡ postOf t (now (s .entry)) cell value .state) × (a ≡ answerOf (postOf t (now (s .entry)) cell value)) ⌝ }
+pub fn post(table: &[u8; 9092], s: &mut State, cell: u32, value: i64) -> Answer
+    ensures { λ a. ⌜ (now (s .exit) ≡ postOf (tableFrom (now (table .entry))) (now (s .entry)) cell value .state) × (a ≡ answerOf (postOf (tableFrom (now (table .entry))) (now (s .entry)) cell value)) ⌝ }
 {
-    let posted = machine::post(t, *s, cell, value);
+    let posted = machine::post(table, *s, cell, value);
     *s = posted.state;
     Answer {
         number: posted.number,
@@ -34,30 +34,31 @@ pub fn post(t: Table, s: &mut State, cell: u32, value: i64) -> Answer
 }
 
 // The rule to step next, the lowest eligible one; 32 where nothing is left to do.
-fn due(t: Table, s: State, left: u32) -> u32
-    ensures { λ r. ⌜ Due t s left r ⌝ }
+fn due(table: &[u8; 9092], s: State, left: u32) -> u32
+    ensures { λ r. ⌜ Due (tableFrom (now (table .entry))) s left r ⌝ }
 {
     if left == 0 {
         return 32;
     }
-    let a = book::check(t);
+    let a = table::check(table);
     if a.number != 0 {
         return 32;
     }
-    let x = machine::run(t, s, 0);
+    let x = machine::run(table, s, 0);
     if x.number != 15 {
         return 32;
     }
     let waiting = s.waiting;
-    let behind = mask::gather(book::goes_before(t), waiting);
+    let rows = table::goes_before(table, rule::count(table[1]));
+    let behind = mask::gather(&rows, waiting);
     mask::lowest((waiting | behind) ^ behind) as u32
 }
 
 // How a run stands after so many steps: a run with budget 0 says it.
-fn standing(t: Table, s: State, steps: u32) -> Ran
-    ensures { λ x. ⌜ x ≡ ran (runOf t s 0 .number) (runOf t s 0 .place) s steps ⌝ }
+fn standing(table: &[u8; 9092], s: State, steps: u32) -> Ran
+    ensures { λ x. ⌜ x ≡ ran (runOf (tableFrom (now (table .entry))) s 0 .number) (runOf (tableFrom (now (table .entry))) s 0 .place) s steps ⌝ }
 {
-    let x = machine::run(t, s, 0);
+    let x = machine::run(table, s, 0);
     Ran {
         number: x.number,
         place: x.place,
@@ -67,16 +68,16 @@ fn standing(t: Table, s: State, steps: u32) -> Ran
 }
 
 // The game loop: one state, lent for one step after another until nothing waits or the budget is used.
-pub fn play(t: Table, s: State, budget: u32) -> Ran
-    ensures { λ x. ⌜ x ≡ runOf t s budget ⌝ }
+pub fn play(table: &[u8; 9092], s: State, budget: u32) -> Ran
+    ensures { λ x. ⌜ x ≡ runOf (tableFrom (now (table .entry))) s budget ⌝ }
 {
     let mut state = s;
     let mut left = budget;
-    let mut r = due(t, state, left);
+    let mut r = due(table, state, left);
     while r < 32 {
-        step(t, &mut state, r);
+        step(table, &mut state, r);
         left -= 1;
-        r = due(t, state, left);
+        r = due(table, state, left);
     }
-    standing(t, state, budget - left)
+    standing(table, state, budget - left)
 }

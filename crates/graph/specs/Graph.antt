@@ -3,7 +3,7 @@ use mathlib.Core.Path.{_≡_}
 use mathlib.Core.Bool.{Bool, true, _&&_, _||_}
 use mathlib.Core.List.{List}
 use Prim.Native.Nat.{ℕ, zero, suc, _^_, _<_}
-use lib.ListN.{getD}
+use lib.ListN.{length, getD}
 use Rattle.mask.specs.Mask.{has}
 
 -- r leads straight to s
@@ -19,6 +19,11 @@ pub data Leads (rows : List ℕ) : ℕ → ℕ → Type 0 where
 unfoldable pub leads : List ℕ → ℕ → ℕ → ℕ → Bool
 leads rows zero r s = has (getD rows r 0) s
 leads rows (suc k) r s = leads rows k r s || (leads rows k r k && leads rows k k s)
+
+-- q is the row p, but that one more rule, k, may stand in between
+pub record Through (p : List ℕ) (k : ℕ) (q : List ℕ) : Type 0 where
+  pub size : length q ≡ length p
+  pub masks : (r s : ℕ) → has (getD q r 0) s ≡ (has (getD p r 0) s || (has (getD p r 0) k && has (getD p k 0) s))
 
 -- every mask of the row names rules below n only
 abbrev pub Rows : ℕ → List ℕ → Type 0

@@ -1,25 +1,21 @@
 // Graphs of at most 32 rules: mask r of a row is the set of the rules that r leads straight to.
 ghost use mathlib.Core.Path.{_≡_};
-ghost use mathlib.Core.Bool.{_||_, _&&_};
 ghost use Prim.Native.Nat.{ℕ, _<_, _≤_};
-ghost use lib.ListN.{getD};
+ghost use lib.ListN.{length, getD};
 ghost use Rattle.mask.specs.Mask.{has};
-ghost use Rattle.graph.specs.Graph.{leads};
+ghost use Rattle.graph.specs.Graph.{leads, Through};
 
 // One more rule, k, may stand in between.
-fn through(p: [u32; 32], k: usize) -> [u32; 32]
-    requires { ⌜ k < 32 ⌝ }
-    ensures { λ q. ⌜ ((x s : ℕ) → has (getD q x 0) s ≡ (has (getD p x 0) s || (has (getD p x 0) k && has (getD p k 0) s))) ⌝ }
+fn through(q: &mut [u32; 32], k: usize)
+    requires { ⌜ (k < 32) × (length (now q) ≡ 32) ⌝ }
+    ensures { λ _. ⌜ Through (now (q .entry)) k (now (q .exit)) ⌝ }
 {
-    let row = p[k];
-    let mut q = p;
+    let row = q[k];
     for r in 0..32 {
         let old = q[r];
-        if mask::has(old, k) {
-            q[r] = old | row;
-        }
+        let more = if mask::has(old, k) { row } else { 0 };
+        q[r] = old | more;
     }
-    q
 }
 
 // Mask r of the result: the rules that r leads to, directly or through rules below n.
@@ -29,8 +25,7 @@ pub fn closure(rows: [u32; 32], n: usize) -> [u32; 32]
 {
     let mut q = rows;
     for k in 0..n {
-        let next = through(q, k);
-        q = next;
+        through(&mut q, k);
     }
     q
 }

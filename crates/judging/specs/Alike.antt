@@ -11,22 +11,29 @@ use Rattle.graph.specs.Graph.{Leads, directly, through, leads, Rows}
 use Rattle.graph.specs.GraphLaws.{leads-iff, leads-below}
 use Rattle.pairs.specs.declared.Masks.{Masks}
 use Rattle.pairs.specs.Masks.{mayTrigger, commute, rulesOf, rowsOf, triggers, clashes, edge, rowRules}
-use Rattle.pairs.specs.Tables.{rows-has, rows-lt}
+use Rattle.pairs.specs.Tables.{Within, turned-within, rows-has, rows-lt}
 use Rattle.pairs.specs.MasksLaws.{quiet, deaf, absent-commutes, commute-sym}
 use Rattle.pairs.specs.RulesLaws.{Alike}
+use Rattle.pairs.specs.Turned.{turnedOf, Mutual}
 use Rattle.judging.specs.Cleared.{Orderly}
 
 -- mask r: the rules that r goes before
 unfoldable pub befores : Masks → List ℕ
 befores m = rowsOf (leads (m .precedes) (m .n))
 
--- a relation of rules below n only
-pub record Within (n : ℕ) (f : ℕ → ℕ → Bool) : Type 0 where
-  pub from : (r s : ℕ) → n ≤ r → f r s ≡ false
-  pub to : (r s : ℕ) → n ≤ s → f r s ≡ false
-
 within-has : (n : ℕ) (f : ℕ → ℕ → Bool) → n ≤ 32 → Within n f → (r s : ℕ) → edge (rowsOf f) r s ≡ f r s
 within-has n f few w = rows-has f (λ r s l. w .from r s (le-trans few l)) (λ r s l. w .to r s (le-trans few l))
+
+-- a row that has such a relation
+same-within : {n : ℕ} {f g : ℕ → ℕ → Bool} → Within n f → ((r s : ℕ) → g r s ≡ f r s) → Within n g
+same-within w h = record { from = λ r s l. h r s ∙ w .from r s l; to = λ r s l. h r s ∙ w .to r s l }
+
+-- and the row turned round
+turned-has : (n : ℕ) (f : ℕ → ℕ → Bool) (rows : List ℕ) → n ≤ 32 → Within n f → ((r s : ℕ) → edge rows r s ≡ f r s)
+    → (r s : ℕ) → edge (turnedOf rows) r s ≡ f s r
+unfolding turnedOf
+turned-has n f rows few w h r s =
+    within-has n (λ r s. edge rows s r) few (turned-within (same-within w h)) r s ∙ h s r
 
 module _ (m : Masks) (o : Orderly m) where
   -- ---- the three relations know no rule from n up
@@ -61,6 +68,11 @@ module _ (m : Masks) (o : Orderly m) where
       nowhere {r} {s} l (directly e) = none r s l e
       nowhere {r} l (through {t = t} e w) = none r t l e
 
+  -- a row of who goes before whom
+  pub row-within : (before : List ℕ) → ((r s : ℕ) → edge before r s ≡ leads (m .precedes) (m .n) r s)
+      → Within (m .n) (edge before)
+  row-within before h = same-within before-within h
+
   -- ---- so the rows have them whole
 
   pub triggers-has : (r s : ℕ) → edge (triggers m) r s ≡ mayTrigger m r s
@@ -70,6 +82,10 @@ module _ (m : Masks) (o : Orderly m) where
   clashes-has : (r s : ℕ) → edge (clashes m) r s ≡ not (commute m r s)
   unfolding clashes
   clashes-has = within-has (m .n) (λ r s. not (commute m r s)) (o .few) clash-within
+
+  pub clashes-mutual : Mutual (clashes m)
+  clashes-mutual =
+      record { same = λ r s. clashes-has r s ∙ ap not (commute-sym m r s) ∙ sym (clashes-has s r) }
 
   -- no mask of the trigger graph names a rule from n up
   pub triggers-rows : Rows (m .n) (triggers m)
@@ -93,6 +109,16 @@ module _ (m : Masks) (o : Orderly m) where
         back = λ r s w. h r s ∙ leads-iff (m .n) (m .precedes) (o .named) r s .1 w;
         commute = λ r s. ap not (clashes-has r s) ∙ twice (commute m r s);
       })
+
+  -- the same, where the priorities are turned round
+  pub alike-turned : (trig before clash : List ℕ) → trig ≡ triggers m
+      → ((r s : ℕ) → edge before r s ≡ leads (m .precedes) (m .n) r s) → clash ≡ clashes m
+      → Alike (rowRules trig (turnedOf (turnedOf before)) clash) (rulesOf m)
+  alike-turned trig before clash e h f =
+      alike-by trig (turnedOf (turnedOf before)) clash e
+      (turned-has (m .n) (λ r s. leads (m .precedes) (m .n) s r) (turnedOf before) (o .few) (turned-within before-within)
+      (turned-has (m .n) (leads (m .precedes) (m .n)) before (o .few) before-within h))
+      f
 
   -- the rows that are defined
   pub alike-rows : Alike (rowRules (triggers m) (befores m) (clashes m)) (rulesOf m)

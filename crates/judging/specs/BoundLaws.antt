@@ -4,6 +4,7 @@ use mathlib.Core.Logic.{_↔_}
 use mathlib.Core.Bool.{Bool, true, false, false≢true}
 use mathlib.Core.List.{List}
 use Prim.Native.Nat.{ℕ, _^_, _<_}
+use lib.Pow.{pow-pos}
 use Rattle.mask.specs.Search.{some}
 use Rattle.mask.specs.SearchLaws.{Found, some-elim, some-false}
 use Rattle.mask.specs.Mask.{has, beyond, lowest}
@@ -14,11 +15,30 @@ use Rattle.graph.specs.GraphLaws.{leads-iff, leads-below}
 use Rattle.weights.specs.Weight.{total, at, Weights}
 use Rattle.weights.specs.WeightLaws.{bound-is}
 use Rattle.pairs.specs.declared.Masks.{Masks}
-use Rattle.pairs.specs.Masks.{triggers}
+use Rattle.pairs.specs.Masks.{mayTrigger, triggers}
+use Rattle.pairs.specs.Lent.{triggering}
 use Rattle.judging.specs.declared.Bound.{Bound}
 use Rattle.judging.specs.Cleared.{Orderly, Faulty}
 use Rattle.judging.specs.Alike.{triggers-rows}
+use Rattle.judging.specs.ClearedLaws.{none-before}
 use Rattle.judging.specs.Bound.{Bounded}
+
+-- the bound asks who may trigger whom, and no more
+pub triggering-orderly : (m : Masks) → Orderly m → Orderly (triggering (m .n) (m .watch) (m .writes))
+triggering-orderly m o =
+    record {
+      few = o .few;
+      named = λ r. pow-pos (m .n);
+      straight = λ r w. none-before (triggering (m .n) (m .watch) (m .writes)) (λ x. refl) r r w;
+      watch = o .watch;
+      reads = λ r l. refl;
+      writes = o .writes;
+      precedes = λ r l. refl;
+    }
+
+pub bounded-in : (m : Masks) (set : ℕ) (b : Bound) → Bounded (triggering (m .n) (m .watch) (m .writes)) set b → Bounded m set b
+unfolding triggers mayTrigger
+bounded-in m set b h = record { place = h .place; unfit = h .unfit; endless = h .endless; done = h .done }
 
 abbrev made : ℕ → ℕ → ℕ → Bound
 made a b c = record { number = a; place = b; bound = c }

@@ -32,7 +32,7 @@ unordered-commute m c i j li lj ne u = c .pairs i j li lj ne u i j first second
 
 -- ---- 8.9: without priorities every two different rules of a cleared book commute
 
-none-before : (m : Masks) → ((r : ℕ) → getD (m .precedes) r 0 ≡ 0) → (r s : ℕ) → Leads (m .precedes) r s → ⊥
+pub none-before : (m : Masks) → ((r : ℕ) → getD (m .precedes) r 0 ≡ 0) → (r s : ℕ) → Leads (m .precedes) r s → ⊥
 none-before m z r s (directly e) = false≢true (sym (ap (λ (x : ℕ). has x s) (z r) ∙ has-zero s) ∙ e)
 none-before m z r s (through {t = t} e w) = false≢true (sym (ap (λ (x : ℕ). has x t) (z r) ∙ has-zero t) ∙ e)
 

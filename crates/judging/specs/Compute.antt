@@ -10,7 +10,7 @@ use Rattle.pairs.specs.declared.Masks.{Masks}
 use Rattle.pairs.specs.Masks.{triggers, clashes, tableOf, edge}
 use Rattle.pairs.specs.Verdict.{verdict}
 use Rattle.judging.specs.declared.Report.{Report}
-use Rattle.judging.specs.declared.marks.Graphs.{Graphs}
+use Rattle.judging.specs.Graphs.{Graphs}
 use Rattle.judging.specs.Report.{failsAt}
 use Rattle.judging.specs.Alike.{befores}
 

@@ -23,7 +23,7 @@ use Rattle.pairs.specs.Masks.{edge, triggers}
 use Rattle.pairs.specs.Tables.{length-table, table-at}
 use Rattle.pairs.specs.Verdict.{verdict, verdict-judged}
 use Rattle.judging.specs.declared.Report.{Report}
-use Rattle.judging.specs.declared.marks.Graphs.{Graphs}
+use Rattle.judging.specs.Graphs.{Graphs}
 use Rattle.judging.specs.Index.{start, index}
 use Rattle.judging.specs.IndexLaws.{start-next, row-low, index-lt, index-inj}
 use Rattle.judging.specs.Cleared.{Orderly}
@@ -31,7 +31,7 @@ use Rattle.judging.specs.Report.{Marked, absent, ordered, passes, fails,
 use Rattle.judging.specs.ReportLaws.{unique}
 use Rattle.judging.specs.Marking.{graphRules, Drawn, Marks}
 use Rattle.judging.specs.Alike.{alike-rows, triggers-rows}
-use Rattle.judging.specs.Reporting.{faulty-iff, marks-of, cleared-iff, first-none, first-some, first-alike}
+use Rattle.judging.specs.Reporting.{faulty-iff, marks-of, cleared-iff, marks-twos, first-none, first-some, first-alike}
 use Rattle.judging.specs.Compute.{graphsOf, markOf, locate, marksOf, firstOf, reportBy, reportOf}
 
 -- ---- the place of a pair
@@ -119,7 +119,7 @@ module _ (g : Graphs) (rows : Rows 32 (g .trig)) where
       pick true e =
           let l : k < 496 = ltb-true k 496 e in
           let w : Located p k = locates k l in
-          first-some g q (p .0) (p .1) k (v .1) (v .2) (v .0) marks-are refl l (w .low) (w .high) (w .at)
+          first-some (graphRules g) q (p .0) (p .1) k (v .1) (v .2) (v .0) (marks-twos g q marks-are) refl l (w .low) (w .high) (w .at)
           (judged (p .0) (p .1) (le-trans (w .low) (omega arith)) (w .high))
       pick false e =
           first-none (graphRules g) q k refl (omega (arith, ltb-false k 496 e, least-is 496 (failsAt q) .bound))

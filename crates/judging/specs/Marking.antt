@@ -14,7 +14,8 @@ use Rattle.pairs.specs.declared.Masks.{Masks}
 use Rattle.pairs.specs.Rules.{Rules, Unordered, Passes}
 use Rattle.pairs.specs.Masks.{rulesOf, rowRules, triggers}
 use Rattle.pairs.specs.RulesLaws.{Alike}
-use Rattle.judging.specs.declared.marks.Graphs.{Graphs}
+use Rattle.pairs.specs.Turned.{turnedOf, Mutual}
+use Rattle.judging.specs.Graphs.{Graphs}
 use Rattle.judging.specs.Index.{start, index}
 use Rattle.judging.specs.IndexLaws.{start-mono, start-next, index-row, index-lt, index-inj, row-is}
 use Rattle.judging.specs.Report.{Marked, absent, ordered, passes, fails}
@@ -23,6 +24,10 @@ use Rattle.judging.specs.Report.{Marked, absent, ordered, passes, fails}
 abbrev pub graphRules : Graphs → Rules
 graphRules g = rowRules (g .trig) (g .before) (g .clash)
 
+-- the graphs in the rows that the code works on; mask s of `ahead`: the rules that go before s
+abbrev pub graphsIn : ℕ → List ℕ → List ℕ → List ℕ → Graphs
+graphsIn n trig ahead clash = record { n = n; trig = trig; before = turnedOf ahead; clash = clash }
+
 -- g has the graphs of the rules m
 pub record Drawn (m : Masks) (g : Graphs) : Type 0 where
   pub n : g .n ≡ m .n
@@ -30,9 +35,9 @@ pub record Drawn (m : Masks) (g : Graphs) : Type 0 where
   pub alike : Alike (graphRules g) (rulesOf m)
 
 -- whether i and j are unordered
-pub record Order (b : Rules) (i j : ℕ) (r : Bool) : Type 0 where
-  pub unordered : r ≡ true → Unordered b i j
-  pub ordered : r ≡ false → b .before i j ⊎ b .before j i
+pub record Order (before : ℕ → ℕ → Type 0) (i j : ℕ) (r : Bool) : Type 0 where
+  pub unordered : r ≡ true → (before i j → ⊥) × (before j i → ⊥)
+  pub ordered : r ≡ false → before i j ⊎ before j i
 
 -- 1 where the pair passes, 2 where it fails
 pub data Judges (b : Rules) (i j : ℕ) : ℕ → Type 0 where
@@ -61,6 +66,7 @@ Filled g i q = Upto (MarkAt g) zeros (start i) q
 
 pub record Filling (g : Graphs) (i at : ℕ) (q : List ℕ) : Type 0 where
   pub few : g .n ≤ 32
+  pub both : Mutual (g .clash)
   pub present : i < g .n
   pub here : at ≡ start i
   pub filled : Filled g i q
@@ -68,6 +74,10 @@ pub record Filling (g : Graphs) (i at : ℕ) (q : List ℕ) : Type 0 where
 -- every mark is that of its pair
 abbrev pub Marks : Graphs → List ℕ → Type 0
 Marks g q = (i j : ℕ) → i < j → j < 32 → Marked (graphRules g) (g .n) i j (getD q (index i j) 0)
+
+-- a pair whose mark is 2 fails
+pub record Twos (b : Rules) (q : List ℕ) : Type 0 where
+  pub fails : (i j : ℕ) → i < j → j < 32 → getD q (index i j) 0 ≡ 2 → Passes b i j → ⊥
 
 -- ---- one more mark, one more row, all rows
 

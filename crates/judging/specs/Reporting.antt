@@ -20,14 +20,14 @@ use Rattle.pairs.specs.declared.Masks.{Masks}
 use Rattle.pairs.specs.Rules.{Rules, Unordered, Passes, Culprits, Judged}
 use Rattle.pairs.specs.RulesLaws.{Alike, culprits-alike}
 use Rattle.pairs.specs.Masks.{rulesOf, triggers}
-use Rattle.judging.specs.declared.marks.Graphs.{Graphs}
+use Rattle.judging.specs.Graphs.{Graphs}
 use Rattle.judging.specs.Index.{index}
 use Rattle.judging.specs.IndexLaws.{index-lt, PairAt, pair-at}
 use Rattle.judging.specs.Counts.{count-none, count-some}
 use Rattle.judging.specs.Cleared.{Orderly, Faulty, Cleared}
 use Rattle.judging.specs.Report.{Marked, absent, ordered, passes, fails, failsAt, FirstOf}
 use Rattle.judging.specs.ReportLaws.{marked-alike}
-use Rattle.judging.specs.Marking.{graphRules, Drawn, Marks}
+use Rattle.judging.specs.Marking.{graphRules, Drawn, Marks, Twos}
 use Rattle.judging.specs.Alike.{triggers-rows}
 use Rattle.judging.specs.ClearedLaws.{cleared-by}
 
@@ -53,6 +53,9 @@ mark-fails (ordered h w) e = absurd (eqb-false 0 2 refl e)
 mark-fails (passes h u p) e = absurd (eqb-false 1 2 refl e)
 mark-fails (fails h u p) e = record { low = h; unordered = u; fails = p }
 
+pub marks-twos : (g : Graphs) (q : List ℕ) → Marks g q → Twos (graphRules g) q
+marks-twos g q marks = record { fails = λ i j low high e. mark-fails (marks i j low high) e .fails }
+
 -- ---- the first failing pair
 
 pub first-none : (b : Rules) (q : List ℕ) (k : ℕ) → k ≡ least 496 (failsAt q) → k ≡ 496 → FirstOf b q 0 0 0 0
@@ -65,9 +68,9 @@ first-none b q k e z =
           let f : ⊥ = omega arith in absurd f;
     }
 
-pub first-some : (g : Graphs) (q : List ℕ) (i j k c o : ℕ) (f : Bool) → Marks g q → k ≡ least 496 (failsAt q) → k < 496
-    → i < j → j < 32 → index i j ≡ k → Judged (graphRules g) i j f c o → FirstOf (graphRules g) q i j c o
-first-some g q i j k c o f marks e l low high at d =
+pub first-some : (b : Rules) (q : List ℕ) (i j k c o : ℕ) (f : Bool) → Twos b q → k ≡ least 496 (failsAt q) → k < 496
+    → i < j → j < 32 → index i j ≡ k → Judged b i j f c o → FirstOf b q i j c o
+first-some b q i j k c o f twos e l low high at d =
     record {
       none = λ h. let z : ⊥ = omega (arith, count-some 496 (failsAt q) (index i j) (omega arith) two) in absurd z;
       some = λ h.
@@ -83,10 +86,9 @@ first-some g q i j k c o f marks e l low high at d =
     two : failsAt q (index i j) ≡ true
     two = rw (at, e) (least-is 496 (failsAt q) .is (rw e at l))
 
-    pick : (t : Bool) → f ≡ t → Culprits (graphRules g) i j c o
+    pick : (t : Bool) → f ≡ t → Culprits b i j c o
     pick true z = d .failing z
-    pick false z =
-        absurd (mark-fails (marks i j low high) (eqb-true (getD q (index i j) 0) 2 two) .fails (d .passing z .0))
+    pick false z = absurd (twos .fails i j low high (eqb-true (getD q (index i j) 0) 2 two) (d .passing z .0))
 
 pub first-alike : {a b : Rules} {q : List ℕ} {i j c o : ℕ} → Alike a b → FirstOf a q i j c o → FirstOf b q i j c o
 first-alike h f =

@@ -19,10 +19,10 @@ use Rattle.graph.specs.GraphLaws.{leads-iff, leads-below}
 use Rattle.weights.specs.Weighing.{zeros-at}
 use Rattle.pairs.specs.declared.Masks.{Masks}
 use Rattle.pairs.specs.Masks.{mayTrigger, commute, rowsOf, triggers, clashes}
-use Rattle.pairs.specs.Tables.{Row, rows-only}
-use Rattle.judging.specs.declared.marks.Graphs.{Graphs}
+use Rattle.pairs.specs.Tables.{Within, Row, rows-only}
+use Rattle.judging.specs.Graphs.{Graphs}
 use Rattle.judging.specs.Cleared.{Past, Orderly}
-use Rattle.judging.specs.Alike.{befores, Within, may-within, before-within, clash-within}
+use Rattle.judging.specs.Alike.{befores, may-within, before-within, clash-within}
 use Rattle.judging.specs.Compute.{graphsOf}
 
 unfoldable pub padded : List ℕ → List ℕ
@@ -105,7 +105,7 @@ rows-written n f t few e w none = sym (rows-only f (padded t) size row)
         (some-false n (differs n f t) none r l) in
         let v : getD (padded t) r 0 < 2 ^ n = ltb-true (getD (padded t) r 0) (2 ^ n) (p .0) in (
           le-trans v (pow-mono few),
-          λ s.
+          λ s h.
               ⊎-elim
               (λ k. like (has (getD (padded t) r 0) s) (f r s)
               (some-false n (λ s. unlike (has (getD (padded t) r 0) s) (f r s)) (p .1) s k))
@@ -116,7 +116,7 @@ rows-written n f t few e w none = sym (rows-only f (padded t) size row)
     row : (r : ℕ) → r < 32 → Row f r (getD (padded t) r 0)
     row r l =
         ⊎-elim (inside r)
-        (λ k. rw (padded-past n t e r k) (pow-pos 32, λ s. has-zero s ∙ sym (w .from r s k)))
+        (λ k. rw (padded-past n t e r k) (pow-pos 32, λ s h. has-zero s ∙ sym (w .from r s k)))
         (lt-or-ge r n)
 
 pub graphs-written : (m : Masks) (trig before clash : List ℕ) → Orderly m

@@ -1,18 +1,13 @@
 // The marks of all pairs, how many fail, and the first that does.
 ghost use mathlib.Core.Path.{_≡_};
 ghost use Prim.Native.Nat.{suc, _<_, _≤_};
+ghost use lib.ListN.{length};
 ghost use Rattle.mask.specs.Search.{count, least};
+ghost use Rattle.graph.specs.Graph.{Edge};
+ghost use Rattle.pairs.specs.Turned.{turnedOf, rulesIn, Mutual};
 ghost use Rattle.judging.specs.Index.{index};
 ghost use Rattle.judging.specs.Report.{failsAt, FirstOf};
-ghost use Rattle.judging.specs.Marking.{graphRules, Order, Judges, Filling, Filled, Marks};
-
-// Mask r of each row: the rules that r may trigger, those that it goes before, those that do not commute with it.
-pub struct Graphs {
-    pub n: usize,
-    pub trig: [u32; 32],
-    pub before: [u32; 32],
-    pub clash: [u32; 32],
-}
+ghost use Rattle.judging.specs.Marking.{Order, Judges, graphsIn, zeros, Filling, Filled, Marks, Twos};
 
 // Two rules, the lower first.
 struct Pair {
@@ -28,67 +23,64 @@ pub struct First {
     pub other: u8,
 }
 
-// Whether neither of two rules goes before the other.
-fn unordered(g: Graphs, i: usize, j: usize) -> bool
+// Whether neither of two rules goes before the other. Mask s of `ahead`: the rules that go before s.
+fn unordered(ahead: &[u32; 32], i: usize, j: usize) -> bool
     requires { ⌜ (i < 32) × (j < 32) ⌝ }
-    ensures { λ r. ⌜ Order (graphRules g) i j r ⌝ }
+    ensures { λ r. ⌜ Order (Edge (turnedOf (now (ahead .entry)))) i j r ⌝ }
 {
-    let before = g.before;
-    if mask::has(before[i], j) {
+    if mask::has(ahead[j], i) {
         return false;
     }
-    if mask::has(before[j], i) {
+    if mask::has(ahead[i], j) {
         return false;
     }
     true
 }
 
 // The mark of an unordered pair: 1 passes, 2 fails.
-fn mark(g: Graphs, i: usize, j: usize) -> u8
-    requires { ⌜ (i < 32) × (j < 32) ⌝ }
-    ensures { λ v. ⌜ Judges (graphRules g) i j v ⌝ }
+fn mark(trig: &[u32; 32], ahead: &[u32; 32], clash: &[u32; 32], i: usize, j: usize) -> u8
+    requires { ⌜ (i < 32) × (j < 32) × Mutual (now clash) ⌝ }
+    ensures { λ v. ⌜ Judges (rulesIn (now (trig .entry)) (now (ahead .entry)) (now (clash .entry))) i j v ⌝ }
 {
-    let trig = g.trig;
-    let before = g.before;
-    let clash = g.clash;
-    let w = pairs::judge(trig, before, clash, i, j);
+    let w = pairs::judge(trig, ahead, clash, i, j);
     if w.fails { 2 } else { 1 }
 }
 
 // The marks of row i, which starts at `at`, after those of the rows before it.
-fn row(g: Graphs, i: usize, at: usize, old: [u8; 496]) -> [u8; 496]
-    requires { ⌜ Filling g i at old ⌝ }
-    ensures { λ q. ⌜ Filled g (suc i) q ⌝ }
+fn row(
+    trig: &[u32; 32],
+    ahead: &[u32; 32],
+    clash: &[u32; 32],
+    n: usize,
+    i: usize,
+    at: usize,
+    q: &mut [u8; 496],
+)
+    requires { ⌜ Filling (graphsIn n (now trig) (now ahead) (now clash)) i at (now q) ⌝ }
+    ensures { λ _. ⌜ Filled (graphsIn n (now (trig .entry)) (now (ahead .entry)) (now (clash .entry))) (suc i) (now (q .exit)) ⌝ }
 {
-    let n = g.n;
-    let mut q = old;
     for j in i + 1..n {
-        if unordered(g, i, j) {
-            q[at + (j - (i + 1))] = mark(g, i, j);
+        if unordered(ahead, i, j) {
+            q[at + (j - (i + 1))] = mark(trig, ahead, clash, i, j);
         }
     }
-    q
 }
 
-// The 496 marks, row by row.
-pub fn filled(g: Graphs) -> [u8; 496]
-    requires { ⌜ g .n ≤ 32 ⌝ }
-    ensures { λ q. ⌜ Marks g q ⌝ }
+// The 496 marks, row by row, where all were 0.
+pub fn filled(trig: &[u32; 32], ahead: &[u32; 32], clash: &[u32; 32], n: usize, q: &mut [u8; 496])
+    requires { ⌜ (n ≤ 32) × Mutual (now clash) × (now q ≡ zeros) ⌝ }
+    ensures { λ _. ⌜ (length (now (q .exit)) ≡ 496) × Marks (graphsIn n (now (trig .entry)) (now (ahead .entry)) (now (clash .entry))) (now (q .exit)) ⌝ }
 {
-    let n = g.n;
-    let mut q = [0u8; 496];
     let mut at = 0;
     for i in 0..n {
-        let next = row(g, i, at, q);
-        q = next;
+        row(trig, ahead, clash, n, i, at, q);
         at = at + (31 - i);
     }
-    q
 }
 
 // How many marks are 2.
-pub fn failing(q: [u8; 496]) -> u16
-    ensures { λ c. ⌜ c ≡ count 496 (failsAt q) ⌝ }
+pub fn failing(q: &[u8; 496]) -> u16
+    ensures { λ c. ⌜ c ≡ count 496 (failsAt (now (q .entry))) ⌝ }
 {
     let mut c = 0;
     for k in 0..496 {
@@ -100,8 +92,8 @@ pub fn failing(q: [u8; 496]) -> u16
 }
 
 // Where the first mark 2 stands, or 496.
-fn first_mark(q: [u8; 496]) -> usize
-    ensures { λ k. ⌜ k ≡ least 496 (failsAt q) ⌝ }
+fn first_mark(q: &[u8; 496]) -> usize
+    ensures { λ k. ⌜ k ≡ least 496 (failsAt (now (q .entry))) ⌝ }
 {
     for k in 0..496 {
         if q[k] == 2 {
@@ -129,9 +121,9 @@ fn pair_at(k: usize) -> Pair
 }
 
 // The first failing pair, judged again for its culprits.
-pub fn first_failing(g: Graphs, q: [u8; 496]) -> First
-    requires { ⌜ Marks g q ⌝ }
-    ensures { λ f. ⌜ FirstOf (graphRules g) q (f .first) (f .second) (f .culprit) (f .other) ⌝ }
+pub fn first_failing(trig: &[u32; 32], ahead: &[u32; 32], clash: &[u32; 32], q: &[u8; 496]) -> First
+    requires { ⌜ Mutual (now clash) × Twos (rulesIn (now trig) (now ahead) (now clash)) (now q) ⌝ }
+    ensures { λ f. ⌜ FirstOf (rulesIn (now (trig .entry)) (now (ahead .entry)) (now (clash .entry))) (now (q .entry)) (f .first) (f .second) (f .culprit) (f .other) ⌝ }
 {
     let k = first_mark(q);
     if k == 496 {
@@ -145,10 +137,7 @@ pub fn first_failing(g: Graphs, q: [u8; 496]) -> First
     let p = pair_at(k);
     let i = p.first;
     let j = p.second;
-    let trig = g.trig;
-    let before = g.before;
-    let clash = g.clash;
-    let w = pairs::judge(trig, before, clash, i, j);
+    let w = pairs::judge(trig, ahead, clash, i, j);
     First {
         first: i as u8,
         second: j as u8,

@@ -1,50 +1,51 @@
 // The report and the step bound of rules that are given by rows of masks.
 use crate::Bound;
-use crate::Report;
+use crate::Summary;
 use crate::marks;
-use crate::marks::Graphs;
-use pairs::Masks;
+ghost use mathlib.Core.Path.{_≡_};
+ghost use Prim.Native.Nat.{ℕ, _≤_};
+ghost use Rattle.mask.specs.Mask.{has};
+ghost use Rattle.graph.specs.Graph.{leads};
+ghost use Rattle.pairs.specs.Lent.{masksIn, triggering};
 ghost use Rattle.judging.specs.Cleared.{Orderly};
 ghost use Rattle.judging.specs.Report.{Reported};
+ghost use Rattle.judging.specs.Summary.{reportIn};
+ghost use Rattle.judging.specs.Marking.{zeros};
 ghost use Rattle.judging.specs.Bound.{Bounded};
-ghost use Rattle.judging.specs.Marking.{Drawn};
 
-// The three graphs of the rules.
-fn drawn(m: Masks) -> Graphs
-    requires { ⌜ Orderly m ⌝ }
-    ensures { λ g. ⌜ Drawn m g ⌝ }
+// The rules that reach themselves.
+fn at_fault(trig: &[u32; 32], n: usize) -> u32
+    requires { ⌜ n ≤ 32 ⌝ }
+    ensures { λ f. ⌜ ((r : ℕ) → has f r ≡ leads (now (trig .entry)) n r r) ⌝ }
 {
-    let n = m.n;
-    let precedes = m.precedes;
-    let trig = pairs::triggers(m);
-    let before = graph::closure(precedes, n);
-    let clash = pairs::clashes(m);
-    Graphs {
-        n: n,
-        trig: trig,
-        before: before,
-        clash: clash,
-    }
+    let rows = *trig;
+    graph::loops(graph::closure(rows, n))
 }
 
-// The report.
-pub fn report(m: Masks) -> Report
-    requires { ⌜ Orderly m ⌝ }
-    ensures { λ r. ⌜ Reported m r ⌝ }
+// The report: its marks are filled in where all were 0, the rest is given back.
+pub fn judged(
+    n: usize,
+    watch: &[u32; 32],
+    reads: &[u32; 32],
+    writes: &[u32; 32],
+    precedes: &[u32; 32],
+    marks: &mut [u8; 496],
+) -> Summary
+    requires { ⌜ Orderly (masksIn n (now watch) (now reads) (now writes) (now precedes)) × (now marks ≡ zeros) ⌝ }
+    ensures { λ v. ⌜ Reported (masksIn n (now (watch .entry)) (now (reads .entry)) (now (writes .entry)) (now (precedes .entry))) (reportIn v (now (marks .exit))) ⌝ }
 {
-    let g = drawn(m);
-    let n = g.n;
-    let trig = g.trig;
-    let faulty = graph::loops(graph::closure(trig, n));
-    let q = marks::filled(g);
-    let c = marks::failing(q);
-    let f = marks::first_failing(g, q);
-    Report {
-        number: 0,
-        place: 255,
+    let trig = pairs::triggers(watch, writes, n);
+    let clash = pairs::clashes(watch, reads, writes, n);
+    let rows = *precedes;
+    let before = graph::closure(rows, n);
+    let ahead = pairs::turned(&before, n);
+    let faulty = at_fault(&trig, n);
+    marks::filled(&trig, &ahead, &clash, n, marks);
+    let c = marks::failing(marks);
+    let f = marks::first_failing(&trig, &ahead, &clash, marks);
+    Summary {
         cleared: (faulty == 0) & (c == 0),
         faulty: faulty,
-        marks: q,
         failing: c,
         first: f.first,
         second: f.second,
@@ -53,12 +54,11 @@ pub fn report(m: Masks) -> Report
     }
 }
 
-// The step bound of a set of rules.
-pub fn bound(m: Masks, set: u32) -> Bound
-    requires { ⌜ Orderly m ⌝ }
-    ensures { λ b. ⌜ Bounded m set b ⌝ }
+// The step bound of a set of rules: it asks who may trigger whom, and no more.
+pub fn bound(n: usize, watch: &[u32; 32], writes: &[u32; 32], set: u32) -> Bound
+    requires { ⌜ Orderly (triggering n (now watch) (now writes)) ⌝ }
+    ensures { λ b. ⌜ Bounded (triggering n (now (watch .entry)) (now (writes .entry))) set b ⌝ }
 {
-    let n = m.n;
     if mask::beyond(set, n) {
         return Bound {
             number: 11,
@@ -66,16 +66,16 @@ pub fn bound(m: Masks, set: u32) -> Bound
             bound: 0,
         };
     }
-    let trig = pairs::triggers(m);
-    if graph::loops(graph::closure(trig, n)) != 0 {
+    let trig = pairs::triggers(watch, writes, n);
+    if at_fault(&trig, n) != 0 {
         return Bound {
             number: 17,
             place: 255,
             bound: 0,
         };
     }
-    let w = weights::weights(trig, n);
-    let t = weights::total(w, set);
+    let w = weights::weights(&trig, n);
+    let t = weights::total(&w, set);
     Bound {
         number: 0,
         place: 255,

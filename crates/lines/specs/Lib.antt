@@ -1,5 +1,5 @@
 -- What the contracts of `lines` cite: `Text` is what is printed, `Lines` the promise of the call, `Added` how a text grows. `Value` says that
--- digits say their number, `LinesUnique` that the promise determines the result.
+-- digits say their number, `BodyLaws` that the bodies of a book that was read are its rules, `LinesUnique` that the promise determines the result.
 pub mod Text
 pub mod TextLaws
 pub mod Value
@@ -7,3 +7,4 @@ pub mod Added
 pub mod Lines
 pub mod LinesLaws
 pub mod LinesUnique
+pub mod BodyLaws

@@ -6,15 +6,15 @@ use Prim.Native.Nat.{ℕ, _-_, _^_, _≤_}
 use lib.Dec.{ltb}
 use lib.ListN.{length}
 use Rattle.endian.specs.Put.{put}
-use Rattle.book.specs.declared.Table.{Table}
-use Rattle.reader.specs.declared.Reading.{Reading}
-use Rattle.reader.specs.Read.{readOf}
+use Rattle.table.specs.Table.{Table}
+use Rattle.book_read.specs.Read.{Reading, readOf}
 use Rattle.judging.specs.declared.Report.{Report}
 use Rattle.judging.specs.declared.Bound.{Bound}
 use Rattle.analysis.specs.Says.{ReportSays, BoundSays}
-use Rattle.lines.specs.declared.text.Text.{Text}
+use Rattle.judging.specs.Summary.{reportIn}
 use Rattle.lines.specs.declared.Printed.{Printed}
-use Rattle.lines.specs.Added.{said, Room}
+use Rattle.lines.specs.declared.Found.{Found}
+use Rattle.lines.specs.Added.{said}
 use Rattle.lines.specs.Text.{refusedLine, fourLines}
 
 -- the length of the text and the buffer with the text at its start; a buffer that is too short stays as it is, and the length is 0
@@ -29,20 +29,30 @@ pub record FourLines (t : Table) (text : List ℕ) : Type 0 where
   pub bounds : BoundSays t (2 ^ (t .n) - 1) bound
   pub is : text ≡ fourLines t report bound
 
--- a text that says them
-pub record Four (t : Table) (r : Text) : Type 0 where
-  pub lines : FourLines t (said r)
-  pub room : Room r 0
+-- what is found of a table: a report, all but its marks, and that bound
+pub record FoundOf (t : Table) (f : Found) : Type 0 where
+  pub marks : List ℕ
+  pub says : ReportSays t (reportIn (f .summary) marks)
+  pub bound : Bound
+  pub bounds : BoundSays t (2 ^ (t .n) - 1) bound
+  pub is : f .bound ≡ bound .bound
+
+-- a text that says them, in a buffer that was d
+pub record Four (t : Table) (d e : List ℕ) (end : ℕ) : Type 0 where
+  pub lines : FourLines t (said e end)
+  pub size : length e ≡ length d
+  pub most : end ≤ 512
 
 -- what is printed for a reading
 pub record TextOf (r : Reading) (text : List ℕ) : Type 0 where
   pub refused : (r .number ≡ 0 → ⊥) → text ≡ refusedLine (r .number) (r .place)
   pub done : r .number ≡ 0 → FourLines (r .table) text
 
--- a text that says it
-pub record Told (r : Reading) (u : Text) : Type 0 where
-  pub text : TextOf r (said u)
-  pub room : Room u 0
+-- a text that says it, in a buffer that was d
+pub record Told (r : Reading) (d e : List ℕ) (end : ℕ) : Type 0 where
+  pub text : TextOf r (said e end)
+  pub size : length e ≡ length d
+  pub most : end ≤ 512
 
 -- the number and the place of a reading, and a length
 abbrev pub printedOf : Reading → ℕ → Printed

@@ -1,5 +1,5 @@
--- What `lines` needs of a book that was read and of the set of all its rules, and what its promise gives a caller. Assumes nothing.
-use mathlib.Core.Path.{_≡_, refl, sym, _∙_, subst}
+-- The set of all rules, and what the promise of `lines` gives a caller. Assumes nothing.
+use mathlib.Core.Path.{_≡_, refl, sym, _∙_}
 use mathlib.Core.Bool.{Bool, true, false, cond}
 use mathlib.Core.List.{List}
 use Prim.Native.Nat.{ℕ, _-_, _^_, _≤_, _<_}
@@ -11,18 +11,9 @@ use borrow.Author.Tests.{ltb-false, le-ltb}
 use Rattle.endian.specs.Put.{put}
 use Rattle.mask.specs.Mask.{has}
 use Rattle.mask.specs.Bits.{ext, has-ones}
-use Rattle.book.specs.Sound.{parts}
-use Rattle.reader.specs.declared.Reading.{Reading}
-use Rattle.reader.specs.Read.{readOf, tableIn}
-use Rattle.reader.specs.ReadLaws.{read-done}
+use Rattle.book_read.specs.Read.{readOf}
 use Rattle.lines.specs.declared.Printed.{Printed}
 use Rattle.lines.specs.Lines.{printedOf, LinesSay}
-
--- a book that was read has at most 32 rules
-pub few-rules : (s : List ℕ) → readOf s .number ≡ 0 → readOf s .table .n ≤ 32
-few-rules s e =
-    let r = read-done s e in
-    subst (λ (x : Reading). x .table .n ≤ 32) (sym (r .reading)) (parts (tableIn s) (r .sound) .sizes .rules)
 
 -- the mask of the numbers below n
 pub all-rules : (n set : ℕ) → n ≤ 32 → set < 2 ^ 32 → ((k : ℕ) → has set k ≡ ltb k n) → set ≡ 2 ^ n - 1

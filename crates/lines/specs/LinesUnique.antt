@@ -1,19 +1,14 @@
 -- The promise determines the length and every byte of the buffer: any two results that meet it are equal. Assumes nothing.
 use mathlib.Core.Path.{_≡_, sym, ap, ap₂, _∙_, subst}
 use mathlib.Core.List.{List}
-use Prim.Native.Nat.{ℕ, _+_, _^_, _<_}
+use Prim.Native.Nat.{ℕ, _^_, _<_}
 use native.Mathlib.Decide.{ℕ-discrete}
-use native.Mathlib.Omega.{arith}
 use Rattle.endian.specs.Stands.{Bytes}
-use Rattle.rule.specs.declared.Rule.{Rule}
-use Rattle.rule.specs.Fill.{getD-filled}
-use Rattle.rule.specs.Empty.{noRule, blankRule}
-use Rattle.book.specs.declared.Table.{Table}
-use Rattle.book.specs.Table.{ruleAt}
-use Rattle.reader.specs.declared.Reading.{Reading}
-use Rattle.reader.specs.Read.{nOf, startOf, tableIn, readOf}
-use Rattle.reader.specs.ReadLaws.{bodyIn, read-done}
+use Rattle.table.specs.Table.{Table, ruleAt}
+use Rattle.book_read.specs.Read.{Reading, tableIn, readOf}
+use Rattle.book_read.specs.ReadLaws.{read-done}
 use Rattle.analysis.specs.SaysLaws.{report-unique, bound-of-unique}
+use Rattle.lines.specs.BodyLaws.{narrow}
 use Rattle.lines.specs.Text.{fourLines}
 use Rattle.lines.specs.declared.Printed.{Printed}
 use Rattle.lines.specs.Lines.{laid, FourLines, TextOf, printedOf, LinesSay}
@@ -30,25 +25,15 @@ four-unique t h p q =
     ∙ sym (q .is))
 
 module _ (s : List ℕ) (bytes : Bytes s) where
-  -- a mask of four bytes
-  mask-small : (i : ℕ) → bodyIn s i .precedes < 2 ^ 32
-  mask-small i =
-      let j = startOf s i + 4 in
-      omega (arith, bytes .small j, bytes .small (j + 1), bytes .small (j + 2), bytes .small (j + 2 + 1))
-
-  narrow : readOf s .number ≡ 0 → Narrow (readOf s .table)
+  narrow-read : readOf s .number ≡ 0 → Narrow (readOf s .table)
   unfolding tableIn
-  narrow e =
-      subst (λ (r : Reading). Narrow (r .table)) (sym (read-done s e .reading))
-      (λ i l.
-      subst (λ (r : Rule). r .precedes < 2 ^ 32) (sym (getD-filled 32 noRule (bodyIn s) (nOf s) blankRule i l))
-      (mask-small i))
+  narrow-read e = subst (λ (r : Reading). Narrow (r .table)) (sym (read-done s e .reading)) (narrow s bytes)
 
   pub text-unique : {a b : List ℕ} → TextOf (readOf s) a → TextOf (readOf s) b → a ≡ b
   text-unique {a} {b} p q = go (ℕ-discrete (readOf s .number) 0)
     where
       go : Dec (readOf s .number ≡ 0) → a ≡ b
-      go (yes e) = four-unique (readOf s .table) (narrow e) (p .done e) (q .done e)
+      go (yes e) = four-unique (readOf s .table) (narrow-read e) (p .done e) (q .done e)
       go (no ne) = p .refused ne ∙ sym (q .refused ne)
 
   pub lines-unique : (d : List ℕ) {r n : Printed} {e f : List ℕ} → LinesSay s d r e → LinesSay s d n f → (r ≡ n) × (e ≡ f)

@@ -7,7 +7,7 @@ use Prim.Native.String.{String, [] as end, _∷_ as _then_}
 use lib.Dec.{ltb, eqb}
 use Rattle.mask.specs.Mask.{has}
 use Rattle.endian.specs.Joined.{joined}
-use Rattle.book.specs.declared.Table.{Table}
+use Rattle.table.specs.Table.{Table}
 use Rattle.judging.specs.declared.Report.{Report}
 use Rattle.judging.specs.declared.Bound.{Bound}
 

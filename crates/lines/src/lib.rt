@@ -1,17 +1,20 @@
 // The report program's text: four lines for a book, or one where it is refused.
 ghost use mathlib.Core.Path.{_≡_};
-ghost use Prim.Native.Nat.{_≤_};
+ghost use mathlib.Core.List.{[]};
+ghost use Prim.Native.Nat.{_+_, _≤_};
 ghost use lib.ListN.{length};
+ghost use Rattle.book_read.specs.Read.{tableIn, readOf};
+ghost use Rattle.book_read.specs.Spread.{told};
+ghost use Rattle.judging.specs.Summary.{reportIn};
 ghost use Rattle.lines.specs.Text.{numbered, endsLine, pairsLine, clearedLine};
-ghost use Rattle.lines.specs.Added.{Room, Added};
-ghost use Rattle.lines.specs.Lines.{Four, Told, LinesSay};
+ghost use Rattle.lines.specs.Added.{Added};
+ghost use Rattle.lines.specs.Lines.{FoundOf, Four, Told, LinesSay};
 
+mod masks;
 mod text;
 
-use book::Table;
-use judging::Report;
-use reader::Reading;
-use text::Text;
+use judging::Summary;
+use table::Answer;
 
 pub struct Printed {
     pub number: u8,
@@ -19,83 +22,116 @@ pub struct Printed {
     pub length: usize,
 }
 
-// A line of a word and two numbers.
-fn numbered(t: Text, w: &[u8], a: u8, b: u8) -> Text
-    requires { ⌜ Room t 30 × (length (now w) ≤ 7) ⌝ }
-    ensures { λ r. ⌜ Added t (numbered (now (w .entry)) a b) 30 r ⌝ }
-{
-    text::push(text::two_numbers(text::word(t, w), a, b), 10)
+// A report but for its marks, and the step bound of all rules.
+struct Found {
+    summary: Summary,
+    bound: u32,
 }
 
-fn ends_line(t: Text, faulty: u32, bound: u32) -> Text
-    requires { ⌜ Room t 360 ⌝ }
-    ensures { λ r. ⌜ Added t (endsLine faulty bound) 360 r ⌝ }
+// A line of a word and two numbers.
+fn numbered(out: &mut [u8; 512], at: usize, w: &[u8], a: u8, b: u8) -> usize
+    requires { ⌜ (at + 30 ≤ 512) × (length (now w) ≤ 7) ⌝ }
+    ensures { λ r. ⌜ Added (now (out .entry)) at (numbered (now (w .entry)) a b) 30 (now (out .exit)) r ⌝ }
+{
+    let word = text::word(out, at, w);
+    let end = text::two_numbers(out, word, a, b);
+    text::push(out, end, 10)
+}
+
+fn ends_line(out: &mut [u8; 512], at: usize, faulty: u32, bound: u32) -> usize
+    requires { ⌜ at + 360 ≤ 512 ⌝ }
+    ensures { λ r. ⌜ Added (now (out .entry)) at (endsLine faulty bound) 360 (now (out .exit)) r ⌝ }
 {
     if faulty == 0 {
-        let a = text::word(t, b"ends yes");
-        return text::push(text::number(a, bound), 10);
+        let yes = text::word(out, at, b"ends yes");
+        let end = text::number(out, yes, bound);
+        return text::push(out, end, 10);
     }
-    let b = text::word(t, b"ends no");
-    text::push(text::members(b, faulty), 10)
+    let no = text::word(out, at, b"ends no");
+    let end = text::members(out, no, faulty);
+    text::push(out, end, 10)
 }
 
-fn pairs_line(t: Text, r: Report) -> Text
-    requires { ⌜ Room t 61 ⌝ }
-    ensures { λ u. ⌜ Added t (pairsLine r) 61 u ⌝ }
+// The marks of a report are not printed.
+fn pairs_line(out: &mut [u8; 512], at: usize, v: Summary) -> usize
+    requires { ⌜ at + 61 ≤ 512 ⌝ }
+    ensures { λ u. ⌜ Added (now (out .entry)) at (pairsLine (reportIn v [])) 61 (now (out .exit)) u ⌝ }
 {
-    let a = text::word(t, b"pairs");
-    let b = text::number(a, text::wider(r.failing));
-    if r.failing == 0 {
-        return text::push(b, 10);
+    let word = text::word(out, at, b"pairs");
+    let failing = text::number(out, word, text::wider(v.failing));
+    if v.failing == 0 {
+        return text::push(out, failing, 10);
     }
-    let c = text::two_numbers(b, r.first, r.second);
-    text::push(text::two_numbers(c, r.culprit, r.other), 10)
+    let first = text::two_numbers(out, failing, v.first, v.second);
+    let end = text::two_numbers(out, first, v.culprit, v.other);
+    text::push(out, end, 10)
 }
 
-fn cleared_line(t: Text, cleared: bool) -> Text
-    requires { ⌜ Room t 12 ⌝ }
-    ensures { λ r. ⌜ Added t (clearedLine cleared) 12 r ⌝ }
+fn cleared_line(out: &mut [u8; 512], at: usize, cleared: bool) -> usize
+    requires { ⌜ at + 12 ≤ 512 ⌝ }
+    ensures { λ r. ⌜ Added (now (out .entry)) at (clearedLine cleared) 12 (now (out .exit)) r ⌝ }
 {
     if cleared {
-        return text::word(t, b"cleared yes\n");
+        return text::word(out, at, b"cleared yes\n");
     }
-    text::word(t, b"cleared no\n")
+    text::word(out, at, b"cleared no\n")
 }
 
-// The four lines of a table.
-fn four(t: Table) -> Text
-    requires { ⌜ t .n ≤ 32 ⌝ }
-    ensures { λ r. ⌜ Four t r ⌝ }
+// The report, but for its marks, and the step bound of all rules of a book that was read.
+fn judged(book: &[u8]) -> Found
+    requires { ⌜ readOf (now book) .number ≡ 0 ⌝ }
+    ensures { λ f. ⌜ FoundOf (tableIn (now (book .entry))) f ⌝ }
 {
-    let r = analysis::report(t);
-    let b = analysis::bound(t, mask::below(rule::count(t.n)));
-    let first = numbered(text::empty(), b"book", t.n, t.k);
-    let second = ends_line(first, r.faulty, b.bound);
-    let third = pairs_line(second, r);
-    cleared_line(third, r.cleared)
+    let m = masks::taken(book);
+    let n = m.n;
+    let watch = m.watch;
+    let reads = m.reads;
+    let writes = m.writes;
+    let precedes = m.precedes;
+    let mut marks = [0u8; 496];
+    let v = judging::rows::judged(n, &watch, &reads, &writes, &precedes, &mut marks);
+    let b = judging::rows::bound(n, &watch, &writes, mask::below(n));
+    Found {
+        summary: v,
+        bound: b.bound,
+    }
 }
 
-// What is printed for a reading: the four lines, or the one where it is refused.
-fn told(r: Reading) -> Text
-    requires { ⌜ (r .number ≡ 0 → r .table .n ≤ 32) ⌝ }
-    ensures { λ u. ⌜ Told r u ⌝ }
+// The four lines of a book that was read.
+fn four(book: &[u8], out: &mut [u8; 512]) -> usize
+    requires { ⌜ readOf (now book) .number ≡ 0 ⌝ }
+    ensures { λ r. ⌜ Four (tableIn (now (book .entry))) (now (out .entry)) (now (out .exit)) r ⌝ }
 {
-    if r.number != 0 {
-        return numbered(text::empty(), b"refused", r.number, r.place);
+    let f = judged(book);
+    let v = f.summary;
+    let first = numbered(out, 0, b"book", book[1], book[2]);
+    let second = ends_line(out, first, v.faulty, f.bound);
+    let third = pairs_line(out, second, v);
+    cleared_line(out, third, v.cleared)
+}
+
+// What is printed for a book that was read, or for one that is refused.
+fn told(a: Answer, book: &[u8], out: &mut [u8; 512]) -> usize
+    requires { ⌜ a ≡ told (readOf (now book)) ⌝ }
+    ensures { λ r. ⌜ Told (readOf (now (book .entry))) (now (out .entry)) (now (out .exit)) r ⌝ }
+{
+    if a.number != 0 {
+        return numbered(out, 0, b"refused", a.number, a.place);
     }
-    let t = r.table;
-    four(t)
+    four(book, out)
 }
 
 // Writes the lines for a book, or nothing where they do not fit; gives their length, or 0, and the book's own number and place.
 pub fn lines(book: &[u8], out: &mut [u8]) -> Printed
     ensures { λ r. ⌜ LinesSay (now (book .entry)) (now (out .entry)) r (now (out .exit)) ⌝ }
 {
-    let r = reader::read(book);
-    let length = text::copy(told(r), out);
+    let a = book_read::judge(book);
+    let mut text = [0u8; 512];
+    let n = told(a, book, &mut text);
+    let length = text::copy(&text, n, out);
     Printed {
-        number: r.number,
-        place: r.place,
+        number: a.number,
+        place: a.place,
         length: length,
     }
 }

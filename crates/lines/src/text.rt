@@ -1,16 +1,12 @@
-// A text that grows at its end: letters, words and numbers.
+// A text that grows at its end in a lent buffer: letters, words and numbers. It is the buffer's first `at` bytes, and each function
+// gives where it ends then.
 ghost use mathlib.Core.Path.{_≡_};
 ghost use mathlib.Core.List.{_∷_, []};
+ghost use Prim.Native.Nat.{_+_, _≤_};
 ghost use lib.ListN.{length};
 ghost use Rattle.lines.specs.Text.{digitsTo, spaced, twoNumbers, membersText};
-ghost use Rattle.lines.specs.Added.{Room, Added, Empty, said};
+ghost use Rattle.lines.specs.Added.{Room, Added, said};
 ghost use Rattle.lines.specs.Lines.{laid};
-
-// The text is the first `len` bytes.
-pub struct Text {
-    pub bytes: [u8; 512],
-    pub len: usize,
-}
 
 fn wide(x: u8) -> u32
     ensures { λ r. ⌜ r ≡ x ⌝ }
@@ -24,92 +20,77 @@ pub fn wider(x: u16) -> u32
     x as u32
 }
 
-pub fn empty() -> Text
-    ensures { λ r. ⌜ Empty r ⌝ }
+pub fn word(out: &mut [u8; 512], at: usize, w: &[u8]) -> usize
+    requires { ⌜ at + length (now w) ≤ 512 ⌝ }
+    ensures { λ r. ⌜ Added (now (out .entry)) at (now (w .entry)) (length (now (w .entry))) (now (out .exit)) r ⌝ }
 {
-    Text {
-        bytes: [0u8; 512],
-        len: 0,
-    }
+    endian::put_bytes(out, at, w);
+    at + w.len()
 }
 
-pub fn push(t: Text, x: u8) -> Text
-    requires { ⌜ Room t 1 ⌝ }
-    ensures { λ r. ⌜ Added t (x ∷ []) 1 r ⌝ }
+// One letter.
+pub fn push(out: &mut [u8; 512], at: usize, x: u8) -> usize
+    requires { ⌜ at + 1 ≤ 512 ⌝ }
+    ensures { λ r. ⌜ Added (now (out .entry)) at (x ∷ []) 1 (now (out .exit)) r ⌝ }
 {
-    let at = t.len;
-    let mut b = t.bytes;
-    b[at] = x;
-    Text {
-        bytes: b,
-        len: at + 1,
-    }
-}
-
-pub fn word(t: Text, w: &[u8]) -> Text
-    requires { ⌜ Room t (length (now w)) ⌝ }
-    ensures { λ r. ⌜ Added t (now (w .entry)) (length (now (w .entry))) r ⌝ }
-{
-    let mut r = t;
-    for j in 0..w.len() {
-        r = push(r, w[j]);
-    }
-    r
+    let letter = [x; 1];
+    word(out, at, &letter)
 }
 
 // A number in decimal, of at most f digits.
-fn digits(t: Text, x: u32, f: usize) -> Text
-    requires { ⌜ Room t f ⌝ }
-    ensures { λ r. ⌜ Added t (digitsTo f x) f r ⌝ }
+fn digits(out: &mut [u8; 512], at: usize, x: u32, f: usize) -> usize
+    requires { ⌜ at + f ≤ 512 ⌝ }
+    ensures { λ r. ⌜ Added (now (out .entry)) at (digitsTo f x) f (now (out .exit)) r ⌝ }
 {
     if f == 0 {
-        return t;
+        return at;
     }
     if x < 10 {
-        return push(t, 48 + x as u8);
+        return push(out, at, 48 + x as u8);
     }
-    push(digits(t, x / 10, f - 1), 48 + (x % 10) as u8)
+    let next = digits(out, at, x / 10, f - 1);
+    push(out, next, 48 + (x % 10) as u8)
 }
 
 // A number after a space.
-pub fn number(t: Text, x: u32) -> Text
-    requires { ⌜ Room t 11 ⌝ }
-    ensures { λ r. ⌜ Added t (spaced x) 11 r ⌝ }
+pub fn number(out: &mut [u8; 512], at: usize, x: u32) -> usize
+    requires { ⌜ at + 11 ≤ 512 ⌝ }
+    ensures { λ r. ⌜ Added (now (out .entry)) at (spaced x) 11 (now (out .exit)) r ⌝ }
 {
-    digits(push(t, b' '), x, 10)
+    let next = push(out, at, b' ');
+    digits(out, next, x, 10)
 }
 
-pub fn two_numbers(t: Text, a: u8, b: u8) -> Text
-    requires { ⌜ Room t 22 ⌝ }
-    ensures { λ r. ⌜ Added t (twoNumbers a b) 22 r ⌝ }
+pub fn two_numbers(out: &mut [u8; 512], at: usize, a: u8, b: u8) -> usize
+    requires { ⌜ at + 22 ≤ 512 ⌝ }
+    ensures { λ r. ⌜ Added (now (out .entry)) at (twoNumbers a b) 22 (now (out .exit)) r ⌝ }
 {
-    number(number(t, wide(a)), wide(b))
+    let next = number(out, at, wide(a));
+    number(out, next, wide(b))
 }
 
 // The members of a set upward, each after a space.
-pub fn members(t: Text, m: u32) -> Text
-    requires { ⌜ Room t 352 ⌝ }
-    ensures { λ r. ⌜ Added t (membersText m) 352 r ⌝ }
+pub fn members(out: &mut [u8; 512], at: usize, m: u32) -> usize
+    requires { ⌜ at + 352 ≤ 512 ⌝ }
+    ensures { λ r. ⌜ Added (now (out .entry)) at (membersText m) 352 (now (out .exit)) r ⌝ }
 {
-    let mut r = t;
+    let mut end = at;
     for i in 0..32 {
         if mask::has(m, i) {
-            r = number(r, i as u32);
+            end = number(out, end, i as u32);
         }
     }
-    r
+    end
 }
 
 // Copies a text to the buffer's start, or nothing where it does not fit.
-pub fn copy(t: Text, out: &mut [u8]) -> usize
-    requires { ⌜ Room t 0 ⌝ }
-    ensures { λ r. ⌜ (r, now (out .exit)) ≡ laid (now (out .entry)) (said t) ⌝ }
+pub fn copy(text: &[u8], n: usize, out: &mut [u8]) -> usize
+    requires { ⌜ Room (now text) n ⌝ }
+    ensures { λ r. ⌜ (r, now (out .exit)) ≡ laid (now (out .entry)) (said (now (text .entry)) n) ⌝ }
 {
-    let n = t.len;
-    let b = t.bytes;
     if out.len() < n {
         return 0;
     }
-    endian::put_bytes(out, 0, &b[..n]);
+    endian::put_bytes(out, 0, &text[..n]);
     n
 }

@@ -1,37 +1,26 @@
-// The machine: states by value, and the paper's step, posting and run on a table.
+// The machine: states by value, and the paper's step, posting and run on a table that is lent as its 9,092 bytes.
 ghost use mathlib.Core.Path.{_≡_};
-ghost use Prim.Native.Nat.{_≤_};
-ghost use Rattle.book.specs.Check.{checkOf};
+ghost use Rattle.endian.specs.Little.{byteAt};
+ghost use Rattle.table.specs.Memory.{tableFrom};
+ghost use Rattle.table.specs.Image.{Sizes};
 ghost use Rattle.steps.specs.State.{still};
 ghost use Rattle.steps.specs.Step.{moved, stepNumber, stepOf, postNumber, postOf, freshOf};
 ghost use Rattle.steps.specs.Run.{runOf};
+ghost use Rattle.machine_step.specs.Turn.{stateOf};
 
 mod running;
 
-use book::Table;
+use machine_step::Masks;
 use steps::Moved;
 use steps::Ran;
 use steps::State;
 
-// Done, or a number of the call's own: the place is 255.
-fn answer(number: u8, s: State) -> Moved
-    ensures { λ m. ⌜ m ≡ moved number 255 s ⌝ }
+fn answer(number: u8, place: u8, s: State) -> Moved
+    ensures { λ m. ⌜ m ≡ moved number place s ⌝ }
 {
     Moved {
         number: number,
-        place: 255,
-        state: s,
-    }
-}
-
-// The table's own answer, with the state that comes back where it is refused.
-fn checked(t: Table, s: State) -> Moved
-    ensures { λ m. ⌜ m ≡ moved (checkOf t .number) (checkOf t .place) s ⌝ }
-{
-    let a = book::check(t);
-    Moved {
-        number: a.number,
-        place: a.place,
+        place: place,
         state: s,
     }
 }
@@ -48,97 +37,116 @@ fn still(cells: [i64; 32]) -> State
 }
 
 // A fresh state from 32 amounts; a state of zeros where refused.
-pub fn fresh(t: Table, cells: [i64; 32]) -> Moved
-    ensures { λ m. ⌜ m ≡ freshOf t cells ⌝ }
+pub fn fresh(table: &[u8; 9092], cells: [i64; 32]) -> Moved
+    ensures { λ m. ⌜ m ≡ freshOf (tableFrom (now (table .entry))) cells ⌝ }
 {
     let none = still([0i64; 32]);
-    let a = checked(t, none);
+    let a = table::check(table);
     if a.number != 0 {
-        return a;
+        return answer(a.number, a.place, none);
     }
-    let s = still(cells);
-    if moves::state_bad(t, s) {
-        return answer(11, none);
+    let m = Masks {
+        waiting: 0,
+        faults: 0,
+    };
+    if machine_step::state_bad(table[1], table[2], &cells, m) {
+        return answer(11, 255, none);
     }
-    answer(0, s)
+    answer(0, 255, still(cells))
 }
 
 // A step's own numbers, upward: 11 to 14, or 0.
-fn step_number(t: Table, s: State, r: u32) -> u8
-    requires { ⌜ t .n ≤ 32 ⌝ }
-    ensures { λ x. ⌜ x ≡ stepNumber t s r ⌝ }
+fn step_number(table: &[u8], cells: &[i64; 32], m: Masks, r: u32) -> u8
+    requires { ⌜ Sizes (now table) (byteAt (now table) 1) (byteAt (now table) 2) ⌝ }
+    ensures { λ x. ⌜ x ≡ stepNumber (tableFrom (now (table .entry))) (stateOf (now (cells .entry)) m) r ⌝ }
 {
-    if moves::state_bad(t, s) {
+    if machine_step::state_bad(table[1], table[2], cells, m) {
         return 11;
     }
     let i = r as usize;
-    if rule::count(t.n) <= i {
+    let n = rule::count(table[1]);
+    if n <= i {
         return 12;
     }
-    if !mask::has(s.waiting, i) {
+    if !mask::has(m.waiting, i) {
         return 13;
     }
-    let behind = mask::gather(book::goes_before(t), s.waiting);
-    if mask::has(behind, i) {
+    let rows = table::goes_before(table, n);
+    if mask::has(mask::gather(&rows, m.waiting), i) {
         return 14;
     }
     0
 }
 
 // One step on r.
-pub fn step(t: Table, s: State, r: u32) -> Moved
-    ensures { λ m. ⌜ m ≡ stepOf t s r ⌝ }
+pub fn step(table: &[u8; 9092], s: State, r: u32) -> Moved
+    ensures { λ m. ⌜ m ≡ stepOf (tableFrom (now (table .entry))) s r ⌝ }
 {
-    let a = checked(t, s);
+    let a = table::check(table);
     if a.number != 0 {
-        return a;
+        return answer(a.number, a.place, s);
     }
-    let number = step_number(t, s, r);
+    let mut cells = s.cells;
+    let m = Masks {
+        waiting: s.waiting,
+        faults: s.faults,
+    };
+    let number = step_number(table, &cells, m, r);
     if number != 0 {
-        return answer(number, s);
+        return answer(number, 255, s);
     }
-    let stepped = moves::effect(t, s, r as usize);
-    answer(0, stepped)
+    let row = table::watches(table, rule::count(table[1]));
+    let after = machine_step::turn(table, r as usize, &row, &mut cells, m);
+    let stepped = running::joined(cells, after);
+    answer(0, 255, stepped)
 }
 
 // A posting's own numbers, upward: 11 and 16, or 0.
-fn post_number(t: Table, s: State, cell: u32, value: i64) -> u8
-    requires { ⌜ t .n ≤ 32 ⌝ }
-    ensures { λ x. ⌜ x ≡ postNumber t s cell value ⌝ }
+fn post_number(table: &[u8], cells: &[i64; 32], m: Masks, cell: u32, value: i64) -> u8
+    requires { ⌜ Sizes (now table) (byteAt (now table) 1) (byteAt (now table) 2) ⌝ }
+    ensures { λ x. ⌜ x ≡ postNumber (tableFrom (now (table .entry))) (stateOf (now (cells .entry)) m) cell value ⌝ }
 {
-    if moves::state_bad(t, s) {
+    if machine_step::state_bad(table[1], table[2], cells, m) {
         return 11;
     }
-    if (rule::count(t.k) <= cell as usize) | fields::out_of_range(value) {
+    if (rule::count(table[2]) <= cell as usize) | rule_check::out_of_range(value) {
         return 16;
     }
     0
 }
 
 // A value posted to a cell.
-pub fn post(t: Table, s: State, cell: u32, value: i64) -> Moved
-    ensures { λ m. ⌜ m ≡ postOf t s cell value ⌝ }
+pub fn post(table: &[u8; 9092], s: State, cell: u32, value: i64) -> Moved
+    ensures { λ m. ⌜ m ≡ postOf (tableFrom (now (table .entry))) s cell value ⌝ }
 {
-    let a = checked(t, s);
+    let a = table::check(table);
     if a.number != 0 {
-        return a;
-    }
-    let number = post_number(t, s, cell, value);
-    if number != 0 {
-        return answer(number, s);
+        return answer(a.number, a.place, s);
     }
     let mut cells = s.cells;
-    let c = cell as usize;
-    cells[c] = value;
-    let posted = moves::renewed(t, s, cells);
-    answer(0, posted)
+    let m = Masks {
+        waiting: s.waiting,
+        faults: s.faults,
+    };
+    let number = post_number(table, &cells, m, cell, value);
+    if number != 0 {
+        return answer(number, 255, s);
+    }
+    let row = table::watches(table, rule::count(table[1]));
+    let changed = amounts::put(&mut cells, cell as usize, value, 0);
+    let after = Masks {
+        waiting: machine_step::woken(&row, s.waiting, changed),
+        faults: s.faults,
+    };
+    let posted = running::joined(cells, after);
+    answer(0, 255, posted)
 }
 
 // Steps of the lowest eligible rule until none waits or the budget is used. The table is checked once.
-pub fn run(t: Table, s: State, budget: u32) -> Ran
-    ensures { λ x. ⌜ x ≡ runOf t s budget ⌝ }
+pub fn run(table: &[u8; 9092], s: State, budget: u32) -> Ran
+    ensures { λ x. ⌜ x ≡ runOf (tableFrom (now (table .entry))) s budget ⌝ }
 {
-    let a = book::check(t);
+    let a = table::check(table);
     if a.number != 0 {
         return Ran {
             number: a.number,
@@ -147,8 +155,16 @@ pub fn run(t: Table, s: State, budget: u32) -> Ran
             steps: 0,
         };
     }
-    if moves::state_bad(t, s) {
+    let cells = s.cells;
+    let m = Masks {
+        waiting: s.waiting,
+        faults: s.faults,
+    };
+    if machine_step::state_bad(table[1], table[2], &cells, m) {
         return running::ran(11, s, 0);
     }
-    running::runs(t, book::goes_before(t), s, budget)
+    let n = rule::count(table[1]);
+    let row = table::watches(table, n);
+    let rows = table::goes_before(table, n);
+    running::runs(table, &row, &rows, s, budget)
 }

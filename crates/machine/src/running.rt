@@ -2,17 +2,28 @@
 ghost use mathlib.Core.Path.{_≡_};
 ghost use mathlib.Core.Bool.{_&&_, not};
 ghost use Prim.Native.Nat.{ℕ};
-ghost use lib.ListN.{getD};
 ghost use Rattle.mask.specs.Search.{some};
 ghost use Rattle.mask.specs.Mask.{has};
 ghost use Rattle.mask.specs.Loops.{named};
-ghost use Rattle.book.specs.Table.{goesBefore};
-ghost use Rattle.book.specs.Check.{Sound};
+ghost use Rattle.table.specs.Memory.{tableFrom};
 ghost use Rattle.steps.specs.State.{Fits};
 ghost use Rattle.steps.specs.Run.{ran, runs};
-use book::Table;
+ghost use Rattle.machine_step.specs.Turn.{stateOf};
+ghost use Rattle.machine.specs.Lent.{Lent};
+use machine_step::Masks;
 use steps::Ran;
 use steps::State;
+
+// The cells and the two masks as a state.
+pub fn joined(cells: [i64; 32], m: Masks) -> State
+    ensures { λ s. ⌜ s ≡ stateOf cells m ⌝ }
+{
+    State {
+        cells: cells,
+        waiting: m.waiting,
+        faults: m.faults,
+    }
+}
 
 // Done, or a number of the run's own: the place is 255.
 pub fn ran(number: u8, s: State, steps: u32) -> Ran
@@ -27,28 +38,32 @@ pub fn ran(number: u8, s: State, steps: u32) -> Ran
 }
 
 // The waiting rules that no waiting rule goes before; row x names the rules that x goes before.
-fn eligible(rows: [u32; 32], waiting: u32) -> u32
-    ensures { λ m. ⌜ ((r : ℕ) → has m r ≡ (has waiting r && not (some 32 (named rows waiting r)))) ⌝ }
+fn eligible(rows: &[u32; 32], waiting: u32) -> u32
+    ensures { λ m. ⌜ ((r : ℕ) → has m r ≡ (has waiting r && not (some 32 (named (now (rows .entry)) waiting r)))) ⌝ }
 {
     let behind = mask::gather(rows, waiting);
     (waiting | behind) ^ behind
 }
 
-// The lowest eligible rule is stepped until none waits or the budget is used.
-pub fn runs(t: Table, rows: [u32; 32], s: State, budget: u32) -> Ran
-    requires { ⌜ Sound t × Fits t s × ((x y : ℕ) → has (getD rows x 0) y ≡ goesBefore t x y) ⌝ }
-    ensures { λ x. ⌜ x ≡ runs t s budget ⌝ }
+// The lowest eligible rule is stepped until none waits or the budget is used: the cells are lent to each step.
+pub fn runs(table: &[u8], row: &[u32; 32], rows: &[u32; 32], s: State, budget: u32) -> Ran
+    requires { ⌜ Lent (now table) (now row) (now rows) × Fits (tableFrom (now table)) s ⌝ }
+    ensures { λ x. ⌜ x ≡ runs (tableFrom (now (table .entry))) s budget ⌝ }
 {
-    let mut now = s;
+    let mut cells = s.cells;
+    let mut m = Masks {
+        waiting: s.waiting,
+        faults: s.faults,
+    };
     let mut steps = 0;
-    while now.waiting != 0 {
+    while m.waiting != 0 {
         if steps == budget {
-            return ran(15, now, steps);
+            return ran(15, joined(cells, m), steps);
         }
-        let r = mask::lowest(eligible(rows, now.waiting));
-        let after = moves::effect(t, now, r);
-        now = after;
+        let r = mask::lowest(eligible(rows, m.waiting));
+        let next = machine_step::turn(table, r, row, &mut cells, m);
+        m = next;
         steps += 1;
     }
-    ran(0, now, steps)
+    ran(0, joined(cells, m), steps)
 }

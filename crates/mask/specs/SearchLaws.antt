@@ -9,7 +9,7 @@ use native.Mathlib.Decide.{ℕ-discrete}
 use native.Mathlib.Omega.{arith}
 use lib.Arith.{lt-of-le-ne}
 use lib.Dec.{eqb, ltb}
-use borrow.Author.Tests.{lt-ltb, ltb-true, ltb-false, eq-eqb, ne-eqb}
+use borrow.Author.Tests.{lt-ltb, le-ltb, ltb-true, ltb-false, eq-eqb, ne-eqb}
 use Rattle.mask.specs.Search.{some, least, count, oneIf}
 
 -- ---- tests
@@ -96,20 +96,26 @@ pub some-more : (n : ℕ) (f : ℕ → Bool) → some (n + 1) f ≡ (f n || some
 unfolding some
 some-more n f = ap (λ (k : ℕ). some k f) (add-one n)
 
+-- a search that finds nothing past n goes to n
+pub some-cut : (N n : ℕ) (f g : ℕ → Bool) → n ≤ N → ((j : ℕ) → j < n → f j ≡ g j) → ((j : ℕ) → n ≤ j → j < N → f j ≡ false)
+    → some N f ≡ some n g
+some-cut N n f g l same rest = same-test (some N f) (some n g) there back
+  where
+    there : some N f ≡ true → some n g ≡ true
+    there e =
+        let x = some-elim N f e in
+        ⊎-elim (λ h. some-intro n g (x .at) h (sym (same (x .at) h) ∙ x .is))
+        (λ h. absurd (false≢true (sym (rest (x .at) h (x .lt)) ∙ x .is)))
+        (lt-or-ge (x .at) n)
+
+    back : some n g ≡ true → some N f ≡ true
+    back e = let x = some-elim n g e in some-intro N f (x .at) (le-trans (x .lt) l) (same (x .at) (x .lt) ∙ x .is)
+
 -- of the numbers below N, those below n
 pub some-below : (N n : ℕ) (f : ℕ → Bool) → n ≤ N → some N (λ i. f i && ltb i n) ≡ some n f
-some-below N n f l = same-test (some N (λ i. f i && ltb i n)) (some n f) there back
-  where
-    there : some N (λ i. f i && ltb i n) ≡ true → some n f ≡ true
-    there e =
-        let w : Found N (λ i. f i && ltb i n) = some-elim N (λ i. f i && ltb i n) e in
-        let p = and-true-both (f (w .at)) (ltb (w .at) n) (w .is) in
-        some-intro n f (w .at) (ltb-true (w .at) n (p .1)) (p .0)
-
-    back : some n f ≡ true → some N (λ i. f i && ltb i n) ≡ true
-    back e =
-        let w : Found n f = some-elim n f e in
-        some-intro N (λ i. f i && ltb i n) (w .at) (le-trans (w .lt) l) (ap₂ _&&_ (w .is) (lt-ltb (w .at) n (w .lt)))
+some-below N n f l =
+    some-cut N n (λ i. f i && ltb i n) f l (λ j h. ap (λ (b : Bool). f j && b) (lt-ltb j n h) ∙ and-true (f j))
+    (λ j h g. ap (λ (b : Bool). f j && b) (le-ltb j n h) ∙ and-false (f j))
 
 -- one number apart from the rest
 pub some-but : (n : ℕ) (f : ℕ → Bool) (x : ℕ) → x < n → some n f ≡ (f x || some n (λ y. f y && not (eqb y x)))

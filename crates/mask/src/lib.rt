@@ -91,8 +91,8 @@ pub fn lowest(m: u32) -> usize
 }
 
 // The union of the rows that the members of m name: the members one after another, the lowest first.
-pub fn gather(rows: [u32; 32], m: u32) -> u32
-    ensures { λ r. ⌜ ((s : ℕ) → has r s ≡ some 32 (λ x. has m x && has (getD rows x 0) s)) ⌝ }
+pub fn gather(rows: &[u32; 32], m: u32) -> u32
+    ensures { λ r. ⌜ ((s : ℕ) → has r s ≡ some 32 (λ x. has m x && has (getD (now (rows .entry)) x 0) s)) ⌝ }
 {
     let mut left = m;
     let mut a = 0;
@@ -100,6 +100,19 @@ pub fn gather(rows: [u32; 32], m: u32) -> u32
         let x = lowest(left);
         a = a | rows[x];
         left = without(left, x);
+    }
+    a
+}
+
+// The numbers whose mask in the row shares a member with m.
+pub fn touching(rows: &[u32; 32], m: u32) -> u32
+    ensures { λ r. ⌜ ((s : ℕ) → s < 32 → has r s ≡ meet (getD (now (rows .entry)) s 0) m) ⌝ }
+{
+    let mut a = 0;
+    for x in 0..32 {
+        if meets(rows[x], m) {
+            a = with(a, x);
+        }
     }
     a
 }

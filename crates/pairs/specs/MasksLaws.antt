@@ -1,6 +1,6 @@
 -- Laws of triggering and commuting. Assumes nothing.
 use mathlib.Core.Path.{_≡_, refl, sym, ap, _∙_}
-use mathlib.Core.Bool.{Bool, true, false, not, _&&_, _||_, and-comm, and-false, or-true, and-or-distrib-left}
+use mathlib.Core.Bool.{Bool, true, false, not, _&&_, _||_, and-comm, or-true, and-or-distrib-left}
 use Prim.Native.Nat.{ℕ, zero, suc}
 use lib.Bits.{bitOr}
 use lib.Dec.{eqb}
@@ -16,7 +16,7 @@ use Rattle.pairs.specs.Masks.{mayTrigger, writesInto, commute}
 
 -- ---- sets that meet
 
-meet-comm : (a b : ℕ) → meet a b ≡ meet b a
+pub meet-comm : (a b : ℕ) → meet a b ≡ meet b a
 unfolding meet
 meet-comm a b = some-same 32 (λ i. has a i && has b i) (λ i. has b i && has a i) (λ i l. and-comm (has a i) (has b i))
 
@@ -33,14 +33,14 @@ unfolding some
 some-or zero f g = refl
 some-or (suc n) f g = ap (λ (b : Bool). (f n || g n) || b) (some-or n f g) ∙ shuffle (f n) (g n) (some n f) (some n g)
 
-meet-or : (a b c : ℕ) → meet a (bitOr b c) ≡ (meet a b || meet a c)
+pub meet-or : (a b c : ℕ) → meet a (bitOr b c) ≡ (meet a b || meet a c)
 unfolding meet
 meet-or a b c =
     some-same 32 (λ i. has a i && has (bitOr b c) i) (λ i. has a i && has b i || has a i && has c i)
     (λ i l. ap (λ (x : Bool). has a i && x) (has-or b c i) ∙ and-or-distrib-left (has a i) (has b i) (has c i))
     ∙ some-or 32 (λ i. has a i && has b i) (λ i. has a i && has c i)
 
-eqb-comm : (a b : ℕ) → eqb a b ≡ eqb b a
+pub eqb-comm : (a b : ℕ) → eqb a b ≡ eqb b a
 eqb-comm a b =
     same-test (eqb a b) (eqb b a) (λ e. eq-eqb b a (sym (eqb-true a b e))) (λ e. eq-eqb a b (sym (eqb-true b a e)))
 
@@ -58,7 +58,7 @@ swap false false true c d = refl
 swap false false false c d = and-comm (not c) (not d)
 
 -- neither may trigger the other, and neither writes into the other
-abbrev free : Masks → ℕ → ℕ → Bool
+abbrev pub free : Masks → ℕ → ℕ → Bool
 free m r s = not (mayTrigger m r s) && not (mayTrigger m s r) && not (writesInto m r s) && not (writesInto m s r)
 
 pub commute-sym : (m : Masks) (r s : ℕ) → commute m r s ≡ commute m s r
@@ -90,44 +90,6 @@ absent-commutes m r s a b c =
     let y : meet 0 (getD (m .reads) r 0) ≡ false = meet-zero (getD (m .reads) r 0) in
     let z : meet 0 (getD (m .writes) r 0) ≡ false = meet-zero (getD (m .writes) r 0) in
     rw (deaf m r s a, quiet m s r c, b, c, x, y, z) (or-true (eqb r s))
-
--- ---- the mask of the rules that do not commute with i, as the code makes it
-
-table : (a b p q d e : Bool)
-    → (((a || p) || q) || ((b || d) || q)) && not e ≡ not (e || (not a && not b && not (p || q) && not (d || q)))
-table a b p q d true = and-false (((a || p) || q) || ((b || d) || q))
-table true b p q d false = refl
-table false true true q d false = refl
-table false false true q d false = refl
-table false true false true d false = refl
-table false false false true d false = refl
-table false true false false d false = refl
-table false false false false true false = refl
-table false false false false false false = refl
-
--- i writes, and watches, reads or writes; s watches, reads and writes
-strike : (own watch reads watch′ reads′ writes′ : ℕ) (e : Bool)
-    → ((((meet watch′ own || meet reads′ own) || meet writes′ own)
-    || meet writes′ (bitOr (bitOr watch reads) own)) && not e)
-    ≡ not (e || (not (meet watch′ own) && not (meet watch writes′) && not (meet own reads′ || meet own writes′)
-    && not (meet writes′ reads || meet writes′ own)))
-strike own watch reads watch′ reads′ writes′ e =
-    ap (λ (x : Bool). (((meet watch′ own || meet reads′ own) || meet writes′ own) || x) && not e)
-    (meet-or writes′ (bitOr watch reads) own ∙ ap (λ (x : Bool). x || meet writes′ own) (meet-or writes′ watch reads))
-    ∙ table (meet watch′ own) (meet writes′ watch) (meet reads′ own) (meet writes′ own) (meet writes′ reads) e
-    ∙ cc (meet-comm writes′ watch, meet-comm reads′ own, meet-comm writes′ own)
-
-pub clash-law : (m : Masks) (i s : ℕ)
-    → ((((meet (getD (m .watch) s 0) (getD (m .writes) i 0) || meet (getD (m .reads) s 0) (getD (m .writes) i 0))
-    || meet (getD (m .writes) s 0) (getD (m .writes) i 0))
-    || meet (getD (m .writes) s 0) (bitOr (bitOr (getD (m .watch) i 0) (getD (m .reads) i 0)) (getD (m .writes) i 0)))
-    && not (eqb s i))
-    ≡ not (commute m i s)
-unfolding commute mayTrigger writesInto
-clash-law m i s =
-    strike (getD (m .writes) i 0) (getD (m .watch) i 0) (getD (m .reads) i 0) (getD (m .watch) s 0) (getD (m .reads) s 0)
-    (getD (m .writes) s 0) (eqb s i)
-    ∙ ap (λ (e : Bool). not (e || free m i s)) (eqb-comm s i)
 
 -- ---- what commuting says of two different rules
 

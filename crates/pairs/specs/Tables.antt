@@ -1,11 +1,11 @@
 -- Laws of a relation as a row of 32 masks. Assumes nothing.
-use mathlib.Core.Path.{_≡_, refl, sym, ap, _∙_}
+use mathlib.Core.Path.{_≡_, refl, sym, ap, _∙_, subst}
 use mathlib.Core.Logic.{⊎-elim}
 use mathlib.Core.Bool.{Bool, false}
 use mathlib.Core.List.{List}
 use Prim.Native.Nat.{ℕ, zero, suc, _^_, _≤_, _<_}
 use native.Mathlib.Nat.{le-of-suc-le-suc, not-suc-le-zero, le-trans}
-use lib.ListN.{length, getD, List·getD-eq-default}
+use lib.ListN.{length, getD, replicate, length-replicate, getD-replicate, List·getD-eq-default}
 use lib.Pow.{pow-pos}
 use lib.Seq.{ext-getD}
 use Rattle.mask.specs.SearchLaws.{lt-or-ge}
@@ -14,6 +14,14 @@ use Rattle.mask.specs.Bits.{has-zero, has-high}
 use Rattle.mask.specs.Loops.{Upto, picked-all, maskOf-picked, maskOf-lt, maskOf-unique}
 use Rattle.graph.specs.Graph.{Rows}
 use Rattle.pairs.specs.Masks.{tableOf, rowsOf}
+
+-- a relation of numbers below n only
+pub record Within (n : ℕ) (f : ℕ → ℕ → Bool) : Type 0 where
+  pub from : (r s : ℕ) → n ≤ r → f r s ≡ false
+  pub to : (r s : ℕ) → n ≤ s → f r s ≡ false
+
+pub turned-within : {n : ℕ} {f : ℕ → ℕ → Bool} → Within n f → Within n (λ r s. f s r)
+turned-within w = record { from = λ r s. w .to s r; to = λ r s. w .from s r }
 
 pub length-table : (k : ℕ) (f : ℕ → ℕ) → length (tableOf k f) ≡ k
 unfolding tableOf
@@ -34,7 +42,7 @@ rows-at : (f : ℕ → ℕ → Bool) (r : ℕ) → r < 32 → getD (rowsOf f) r 
 unfolding rowsOf
 rows-at f r l = table-at 32 (λ r. maskOf 32 (f r)) r l
 
-rows-past : (f : ℕ → ℕ → Bool) (r : ℕ) → 32 ≤ r → getD (rowsOf f) r 0 ≡ 0
+pub rows-past : (f : ℕ → ℕ → Bool) (r : ℕ) → 32 ≤ r → getD (rowsOf f) r 0 ≡ 0
 unfolding rowsOf
 rows-past f r l =
     List·getD-eq-default (tableOf 32 (λ r. maskOf 32 (f r))) 0 (rw (length-table 32 (λ r. maskOf 32 (f r))) l)
@@ -43,14 +51,19 @@ pub rows-lt : (f : ℕ → ℕ → Bool) → Rows 32 (rowsOf f)
 rows-lt f r =
     ⊎-elim (λ l. rw (rows-at f r l) (maskOf-lt 32 (f r))) (λ l. rw (rows-past f r l) (pow-pos 32)) (lt-or-ge r 32)
 
--- a relation of numbers below 32 is read back
+-- below 32 a relation is read back
+pub rows-within : (f : ℕ → ℕ → Bool) (r s : ℕ) → r < 32 → s < 32 → has (getD (rowsOf f) r 0) s ≡ f r s
+rows-within f r s l k =
+    ap (λ (m : ℕ). has m s) (rows-at f r l) ∙ picked-all (f r) 32 (maskOf 32 (f r)) (maskOf-picked 32 (f r)) s k
+
+-- a relation of numbers below 32 is read back everywhere
 pub rows-has : (f : ℕ → ℕ → Bool) → ((r s : ℕ) → 32 ≤ r → f r s ≡ false) → ((r s : ℕ) → 32 ≤ s → f r s ≡ false)
     → (r s : ℕ) → has (getD (rowsOf f) r 0) s ≡ f r s
 rows-has f out out′ r s =
     ⊎-elim
     (λ l.
     ⊎-elim
-    (λ k. ap (λ (m : ℕ). has m s) (rows-at f r l) ∙ picked-all (f r) 32 (maskOf 32 (f r)) (maskOf-picked 32 (f r)) s k)
+    (rows-within f r s l)
     (λ k. has-high 32 s (rows-lt f r) k ∙ sym (out′ r s k))
     (lt-or-ge s 32))
     (λ l. ap (λ (m : ℕ). has m s) (rows-past f r l) ∙ has-zero s ∙ sym (out r s l))
@@ -58,15 +71,22 @@ rows-has f out out′ r s =
 
 -- v is mask r of the row
 abbrev pub Row : (ℕ → ℕ → Bool) → ℕ → ℕ → Type 0
-Row f r v = (v < 2 ^ 32) × ((s : ℕ) → has v s ≡ f r s)
+Row f r v = (v < 2 ^ 32) × ((s : ℕ) → s < 32 → has v s ≡ f r s)
 
 -- only one row has these masks
 pub rows-only : (f : ℕ → ℕ → Bool) (t : List ℕ) → length t ≡ 32 → ((r : ℕ) → r < 32 → Row f r (getD t r 0)) → t ≡ rowsOf f
 rows-only f t e h =
     ext-getD 0 t (rowsOf f) (e ∙ sym (rows-length f)) (λ r l.
     let l′ : r < 32 = rw e at l in
-    maskOf-unique 32 (f r) (getD t r 0) (h r l′ .0) (λ s m. h r l′ .1 s) ∙ sym (rows-at f r l′))
+    maskOf-unique 32 (f r) (getD t r 0) (h r l′ .0) (h r l′ .1) ∙ sym (rows-at f r l′))
 
--- a list that has been filled with these masks is the row
-pub rows-by : (f : ℕ → ℕ → Bool) (t₀ t : List ℕ) (k : ℕ) → length t₀ ≡ 32 → 32 ≤ k → Upto (Row f) t₀ k t → t ≡ rowsOf f
-rows-by f t₀ t k e h u = rows-only f t (u .len ∙ e) (λ r l. u .done r (le-trans l h))
+-- zeros of which the first k are filled with these masks are the row, where it is of numbers below k
+pub rows-by : (f : ℕ → ℕ → Bool) (n : ℕ) → Within n f → (P : ℕ → ℕ → Type 0) → ((r v : ℕ) → r < 32 → P r v → Row f r v)
+    → (k : ℕ) (t : List ℕ) → n ≤ k → Upto P (replicate 32 0) k t → t ≡ rowsOf f
+rows-by f n w P is k t h u =
+    rows-only f t (u .len ∙ length-replicate {A = ℕ} 32 0) (λ r l.
+    ⊎-elim (λ m. is r (getD t r 0) l (u .done r m))
+    (λ m.
+    subst (Row f r) (sym (u .rest r m ∙ getD-replicate {A = ℕ} 32 r 0 0 l))
+    (pow-pos 32, λ s b. has-zero s ∙ sym (w .from r s (le-trans h m))))
+    (lt-or-ge r k))

@@ -1,11 +1,16 @@
 // The pair condition on rows of masks: who may trigger whom, who commutes with whom, and whether a pair passes.
 ghost use mathlib.Core.Path.{_≡_};
 ghost use mathlib.Core.Bool.{not};
-ghost use Prim.Native.Nat.{ℕ, _<_};
+ghost use mathlib.Core.List.{[]};
+ghost use Prim.Native.Nat.{ℕ, _<_, _≤_};
 ghost use lib.ListN.{getD};
-ghost use Rattle.mask.specs.Mask.{has, meet};
+ghost use Rattle.mask.specs.Mask.{has};
 ghost use Rattle.pairs.specs.Rules.{Judged};
-ghost use Rattle.pairs.specs.Masks.{commute, triggers, clashes, rowRules};
+ghost use Rattle.pairs.specs.Masks.{mayTrigger, commute, edge};
+ghost use Rattle.pairs.specs.Lent.{masksIn, triggering, triggersIn, clashesIn};
+ghost use Rattle.pairs.specs.Tables.{Within};
+ghost use Rattle.pairs.specs.Turned.{turnedOf, rulesIn, Mutual};
+ghost use Rattle.pairs.specs.Clashing.{Touches, clashing};
 ghost use Rattle.pairs.specs.Growing.{grows, Grew};
 
 // Four masks a rule, of at most 32 rules: the cells that it watches, reads and writes, and the rules that it precedes.
@@ -30,77 +35,80 @@ pub struct Judgement {
     pub second: u8,
 }
 
-// The numbers whose mask in the row shares a member with m.
-fn touching(rows: [u32; 32], m: u32) -> u32
-    ensures { λ r. ⌜ ((s : ℕ) → has r s ≡ meet (getD rows s 0) m) ⌝ }
-{
-    let mut a = 0;
-    for x in 0..32 {
-        if mask::meets(rows[x], m) {
-            a = mask::with(a, x);
-        }
-    }
-    a
-}
-
 // Mask r: the rules that watch a cell that r writes.
-pub fn triggers(m: Masks) -> [u32; 32]
-    ensures { λ t. ⌜ t ≡ triggers m ⌝ }
+pub fn triggers(watch: &[u32; 32], writes: &[u32; 32], n: usize) -> [u32; 32]
+    requires { ⌜ (n ≤ 32) × Within n (mayTrigger (triggering 0 (now watch) (now writes))) ⌝ }
+    ensures { λ t. ⌜ t ≡ triggersIn (now (watch .entry)) (now (writes .entry)) ⌝ }
 {
-    let watch = m.watch;
-    let writes = m.writes;
     let mut t = [0u32; 32];
-    for r in 0..32 {
-        t[r] = touching(watch, writes[r]);
+    for r in 0..n {
+        t[r] = mask::touching(watch, writes[r]);
     }
     t
 }
 
-// The rules that do not commute with i.
-fn clashing(m: Masks, i: usize) -> u32
-    requires { ⌜ i < 32 ⌝ }
-    ensures { λ r. ⌜ ((s : ℕ) → has r s ≡ not (commute m i s)) ⌝ }
+// Mask r: the cells that r watches, reads or writes.
+fn touched(watch: &[u32; 32], reads: &[u32; 32], writes: &[u32; 32]) -> [u32; 32]
+    ensures { λ t. ⌜ ((r : ℕ) → r < 32 → Touches (now (watch .entry)) (now (reads .entry)) (now (writes .entry)) r (getD t r 0)) ⌝ }
 {
-    let watch = m.watch;
-    let reads = m.reads;
-    let writes = m.writes;
-    let own = writes[i];
-    let touched = watch[i] | reads[i] | own;
-    let struck = touching(watch, own)
-        | touching(reads, own)
-        | touching(writes, own)
-        | touching(writes, touched);
+    let mut t = [0u32; 32];
+    for r in 0..32 {
+        t[r] = watch[r] | reads[r] | writes[r];
+    }
+    t
+}
+
+// The rules that do not commute with i: they touch what i writes, or write what i touches.
+fn clashing(touched: &[u32; 32], writes: &[u32; 32], i: usize) -> u32
+    requires { ⌜ i < 32 ⌝ }
+    ensures { λ r. ⌜ ((s : ℕ) → s < 32 → has r s ≡ clashing (now (touched .entry)) (now (writes .entry)) i s) ⌝ }
+{
+    let struck = mask::touching(touched, writes[i]) | mask::touching(writes, touched[i]);
     mask::without(struck, i)
 }
 
 // Mask r: the rules that do not commute with r.
-pub fn clashes(m: Masks) -> [u32; 32]
-    ensures { λ c. ⌜ c ≡ clashes m ⌝ }
+pub fn clashes(watch: &[u32; 32], reads: &[u32; 32], writes: &[u32; 32], n: usize) -> [u32; 32]
+    requires { ⌜ (n ≤ 32) × Within n (λ r s. not (commute (masksIn 0 (now watch) (now reads) (now writes) []) r s)) ⌝ }
+    ensures { λ c. ⌜ c ≡ clashesIn (now (watch .entry)) (now (reads .entry)) (now (writes .entry)) ⌝ }
 {
+    let all = touched(watch, reads, writes);
     let mut c = [0u32; 32];
-    for r in 0..32 {
-        c[r] = clashing(m, r);
+    for r in 0..n {
+        c[r] = clashing(&all, writes, r);
     }
     c
 }
 
-// One round of growing a beside b.
-fn grow(trig: [u32; 32], before: [u32; 32], a: u32, b: u32) -> u32
-    ensures { λ r. ⌜ ((s : ℕ) → has r s ≡ grows trig before a b s) ⌝ }
+// The row turned round, of numbers below n: mask s names the numbers whose mask names s.
+pub fn turned(rows: &[u32; 32], n: usize) -> [u32; 32]
+    requires { ⌜ (n ≤ 32) × Within n (edge (now rows)) ⌝ }
+    ensures { λ t. ⌜ t ≡ turnedOf (now (rows .entry)) ⌝ }
 {
-    a | (mask::gather(trig, a) & touching(before, b))
+    let mut t = [0u32; 32];
+    for s in 0..n {
+        t[s] = mask::touching(rows, mask::with(0, s));
+    }
+    t
+}
+
+// One round of growing a beside b. Mask s of `ahead`: the rules that go before s.
+fn grow(trig: &[u32; 32], ahead: &[u32; 32], a: u32, b: u32) -> u32
+    ensures { λ r. ⌜ ((s : ℕ) → has r s ≡ grows (now (trig .entry)) (turnedOf (now (ahead .entry))) a b s) ⌝ }
+{
+    a | (mask::gather(trig, a) & mask::gather(ahead, b))
 }
 
 // R1 and R2, grown from i and j until nothing changes.
-fn grown(trig: [u32; 32], before: [u32; 32], i: usize, j: usize) -> Sets
+fn grown(trig: &[u32; 32], ahead: &[u32; 32], i: usize, j: usize) -> Sets
     requires { ⌜ (i < 32) × (j < 32) ⌝ }
-    ensures { λ r. ⌜ Grew trig before i j (r .first) (r .second) ⌝ }
+    ensures { λ r. ⌜ Grew (now (trig .entry)) (turnedOf (now (ahead .entry))) i j (r .first) (r .second) ⌝ }
 {
     let mut a = mask::with(0, i);
     let mut b = mask::with(0, j);
     loop {
-        let c = grow(trig, before, a, b);
-        let d = grow(trig, before, b, a);
+        let c = grow(trig, ahead, a, b);
+        let d = grow(trig, ahead, b, a);
         if c == a {
             if d == b {
                 return Sets {
@@ -115,14 +123,20 @@ fn grown(trig: [u32; 32], before: [u32; 32], i: usize, j: usize) -> Sets
 }
 
 // Whether the pair i and j passes, and if not, through which two rules it fails.
-pub fn judge(trig: [u32; 32], before: [u32; 32], clash: [u32; 32], i: usize, j: usize) -> Judgement
-    requires { ⌜ (i < 32) × (j < 32) ⌝ }
-    ensures { λ r. ⌜ Judged (rowRules trig before clash) i j (r .fails) (r .first) (r .second) ⌝ }
+pub fn judge(
+    trig: &[u32; 32],
+    ahead: &[u32; 32],
+    clash: &[u32; 32],
+    i: usize,
+    j: usize,
+) -> Judgement
+    requires { ⌜ (i < 32) × (j < 32) × Mutual (now clash) ⌝ }
+    ensures { λ r. ⌜ Judged (rulesIn (now (trig .entry)) (now (ahead .entry)) (now (clash .entry))) i j (r .fails) (r .first) (r .second) ⌝ }
 {
-    let g = grown(trig, before, i, j);
+    let g = grown(trig, ahead, i, j);
     let one = g.first;
     let other = g.second;
-    let r = mask::lowest(mask::common(one, touching(clash, other)));
+    let r = mask::lowest(mask::common(one, mask::gather(clash, other)));
     if r < 32 {
         let s = mask::lowest(mask::common(clash[r], other));
         Judgement {

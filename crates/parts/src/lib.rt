@@ -1,13 +1,13 @@
-// Reads the parts of a rule out of bytes.
+// Reads one test, one assignment, a name or a row of masks out of bytes.
 ghost use mathlib.Core.Path.{_≡_};
-ghost use Prim.Native.Nat.{_+_, _*_, _≤_};
+ghost use Prim.Native.Nat.{ℕ, _+_, _*_, _≤_, _<_};
 ghost use lib.ListN.{length};
-ghost use Rattle.parts.specs.Parts.{testIn, testsIn, assignIn, assignsIn, nameIn, ruleOf, Room};
+ghost use Rattle.parts.specs.Column.{columnIn};
+ghost use Rattle.parts.specs.Parts.{testIn, assignIn, nameIn};
 use rule::Assign;
-use rule::Rule;
 use rule::Test;
 
-fn read_test(s: &[u8], at: usize) -> Test
+pub fn read_test(s: &[u8], at: usize) -> Test
     requires { ⌜ at + 12 ≤ length (now s) ⌝ }
     ensures { λ r. ⌜ r ≡ testIn (now (s .entry)) at ⌝ }
 {
@@ -21,19 +21,7 @@ fn read_test(s: &[u8], at: usize) -> Test
     }
 }
 
-fn read_tests(s: &[u8], at: usize, t: usize) -> [Test; 8]
-    requires { ⌜ (t ≤ 8) × (at + 12 * t ≤ length (now s)) ⌝ }
-    ensures { λ r. ⌜ r ≡ testsIn (now (s .entry)) at t ⌝ }
-{
-    let x = rule::no_test();
-    let mut out = [x; 8];
-    for j in 0..t {
-        out[j] = read_test(s, at + 12 * j);
-    }
-    out
-}
-
-fn read_assign(s: &[u8], at: usize) -> Assign
+pub fn read_assign(s: &[u8], at: usize) -> Assign
     requires { ⌜ at + 20 ≤ length (now s) ⌝ }
     ensures { λ r. ⌜ r ≡ assignIn (now (s .entry)) at ⌝ }
 {
@@ -51,19 +39,7 @@ fn read_assign(s: &[u8], at: usize) -> Assign
     }
 }
 
-fn read_assigns(s: &[u8], at: usize, a: usize) -> [Assign; 8]
-    requires { ⌜ (a ≤ 8) × (at + 20 * a ≤ length (now s)) ⌝ }
-    ensures { λ r. ⌜ r ≡ assignsIn (now (s .entry)) at a ⌝ }
-{
-    let x = rule::no_assign();
-    let mut out = [x; 8];
-    for j in 0..a {
-        out[j] = read_assign(s, at + 20 * j);
-    }
-    out
-}
-
-fn read_name(s: &[u8], at: usize, m: usize) -> [u8; 16]
+pub fn read_name(s: &[u8], at: usize, m: usize) -> [u8; 16]
     requires { ⌜ (m ≤ 16) × (at + m ≤ length (now s)) ⌝ }
     ensures { λ r. ⌜ r ≡ nameIn (now (s .entry)) at m ⌝ }
 {
@@ -74,25 +50,14 @@ fn read_name(s: &[u8], at: usize, m: usize) -> [u8; 16]
     out
 }
 
-// A rule whose head is at `at`, with room for t tests, a assignments and m letters after it.
-pub fn read_rule(s: &[u8], at: usize, t: usize, a: usize, m: usize) -> Rule
-    requires { ⌜ Room (now s) at t a m ⌝ }
-    ensures { λ r. ⌜ r ≡ ruleOf (now (s .entry)) at t a m ⌝ }
+// The masks that stand at `at` and every `step` bytes after it, n of them; 0 past them.
+pub fn column(s: &[u8], at: usize, step: usize, n: usize) -> [u32; 32]
+    requires { ⌜ (n ≤ 32) × ((i : ℕ) → i < n → at + step * i + 4 ≤ length (now s)) ⌝ }
+    ensures { λ q. ⌜ q ≡ columnIn (now (s .entry)) at step n ⌝ }
 {
-    let tests = read_tests(s, at + 12, t);
-    let assigns = read_assigns(s, at + 12 + 12 * t, a);
-    let name = read_name(s, at + 12 + 12 * t + 20 * a, m);
-    let watch = endian::u32_at(s, at);
-    let precedes = endian::u32_at(s, at + 4);
-    Rule {
-        watch: watch,
-        precedes: precedes,
-        t: s[at + 8],
-        a: s[at + 9],
-        m: s[at + 10],
-        zero: s[at + 11],
-        tests: tests,
-        assigns: assigns,
-        name: name,
+    let mut q = [0u32; 32];
+    for i in 0..n {
+        q[i] = endian::u32_at(s, at + step * i);
     }
+    q
 }

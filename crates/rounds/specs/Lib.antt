@@ -1,8 +1,6 @@
 -- What the contracts of `rounds` cite: `Round` is what both calls one after the other give. `RoundTrip` has the laws of both
--- ways and what follows; `Held` says what memory holds; the others lead there.
+-- ways and what follows; the others lead there.
 pub mod Round
-pub mod Held
-pub mod Slots
 pub mod ReadWrite
 pub mod WriteRead
 pub mod RoundTrip

@@ -19,13 +19,13 @@ use Rattle.rule.specs.Empty.{noRule, blankRule}
 use Rattle.rule.specs.Fill.{getD-filled}
 use Rattle.pieces.specs.Pieces.{bodyBytes}
 use Rattle.pieces.specs.WriteBack.{rule-stands}
-use Rattle.book.specs.Sound.{parts}
-use Rattle.reader.specs.Read.{nOf, kOf, startOf, lengthOf, endOf, tableIn, readOf}
-use Rattle.reader.specs.Inside.{Fitting, fitting, inside, Counts, counts, room}
-use Rattle.reader.specs.ReadLaws.{Taken, read-done, bodyIn}
-use Rattle.writer.specs.Book.{bodySize, startAt, entryBytes, contentsBytes, bodiesBytes, bookOf}
-use Rattle.writer.specs.BookLaws.{length-contents, length-bodies, length-book}
-use Rattle.reader.specs.GoodLaws.{head-good, body-good}
+use Rattle.table.specs.Sound.{parts}
+use Rattle.book_read.specs.Read.{nOf, kOf, startOf, lengthOf, endOf, tableIn, readOf}
+use Rattle.book_read.specs.Inside.{Fitting, fitting, inside, Counts, counts, room}
+use Rattle.book_read.specs.ReadLaws.{Taken, read-done, bodyIn}
+use Rattle.book_write.specs.Book.{bodySize, startAt, entryBytes, contentsBytes, bodiesBytes, bookOf}
+use Rattle.book_write.specs.BookLaws.{length-contents, length-bodies, length-book}
+use Rattle.book_read.specs.GoodLaws.{head-good, body-good}
 
 module _ (s : List ℕ) (b : Bytes s) (done : readOf s .number ≡ 0) where
   abbrev n : ℕ

@@ -2,23 +2,18 @@
 use mathlib.Core.Path.{_≡_, sym, ap, _∙_}
 use mathlib.Core.List.{List}
 use Prim.Native.Nat.{ℕ}
-use lib.ListN.{length, take}
+use lib.ListN.{length}
 use borrow.Author.Tests.{ne-eqb, lt-ltb, le-ltb}
-use Rattle.endian.specs.Put.{put-front}
 use Rattle.endian.specs.Stands.{Bytes}
-use Rattle.book.specs.Sound.{sound-by}
-use Rattle.book.specs.declared.Table.{Table}
-use Rattle.book.specs.Check.{checkOf}
-use Rattle.reader.specs.declared.Reading.{Reading}
-use Rattle.reader.specs.Read.{refusal, taken, readOf}
-use Rattle.reader.specs.ReadLaws.{read-done}
-use Rattle.writer.specs.declared.Written.{Written}
-use Rattle.writer.specs.Book.{bookOf}
-use Rattle.writer.specs.Write.{written, writeOf}
-use Rattle.writer.specs.WriteLaws.{write-refused, write-short, write-done, wrote}
-use Rattle.writer.specs.WriteLaws.{Outcome, refused, short, finished, outcome}
-use Rattle.rounds.specs.Held.{Held}
-use Rattle.rounds.specs.WriteRead.{same-table}
+use Rattle.table.specs.Table.{Table}
+use Rattle.table.specs.Check.{checkOf}
+use Rattle.book_read.specs.Read.{Reading, refusal, taken, readOf}
+use Rattle.book_read.specs.ReadLaws.{read-done}
+use Rattle.book_write.specs.declared.Written.{Written}
+use Rattle.book_write.specs.Book.{bookOf}
+use Rattle.book_write.specs.Write.{written, writeOf}
+use Rattle.book_write.specs.WriteLaws.{write-refused, write-short, write-done, wrote}
+use Rattle.book_write.specs.WriteLaws.{Outcome, refused, short, finished, outcome}
 use Rattle.rounds.specs.RoundTrip.{read-sound, read-book}
 use Rattle.rounds.specs.Round.{rewriteOf, rereadOf}
 
@@ -47,10 +42,8 @@ module _ (t : Table) (d : List ℕ) where
       pick (short h l) = rw (write-short t d h l, h, lt-ltb (length d) (length (bookOf t)) l)
       pick (finished h l) = absurd (ne (ap (λ (w : Written × List ℕ). w .0 .number) (write-done t d h l)))
 
-  pub reread-done : Held t → writeOf t d .0 .number ≡ 0
-      → rereadOf t d ≡ (readOf (take (writeOf t d .0 .length) (writeOf t d .1)), writeOf t d .1)
+  pub reread-done : writeOf t d .0 .number ≡ 0 → rereadOf t d ≡ (taken t, writeOf t d .1)
   unfolding rereadOf
-  reread-done held e =
+  reread-done e =
       let w = wrote t d e in
-      let r = ap readOf (put-front d (bookOf t)) ∙ same-table t (sound-by t (w .checked)) held in
-      rw (w .is, w .checked, le-ltb (length d) (length (bookOf t)) (w .room), r)
+      rw (w .is, w .checked, le-ltb (length d) (length (bookOf t)) (w .room))

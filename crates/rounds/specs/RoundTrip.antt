@@ -5,19 +5,18 @@ use Prim.Native.Nat.{ℕ, _≤_}
 use lib.ListN.{length, take}
 use Rattle.endian.specs.Put.{put, put-front}
 use Rattle.endian.specs.Stands.{Bytes}
-use Rattle.book.specs.Sound.{sound-by}
-use Rattle.book.specs.declared.Table.{Table}
-use Rattle.book.specs.declared.Answer.{Answer}
-use Rattle.book.specs.Check.{checkOf, Sound}
-use Rattle.reader.specs.declared.Reading.{Reading}
-use Rattle.reader.specs.Read.{tableIn, taken, readOf}
-use Rattle.reader.specs.ReadLaws.{read-done}
-use Rattle.writer.specs.declared.Written.{Written}
-use Rattle.writer.specs.Book.{bookOf}
-use Rattle.writer.specs.Write.{written, writeOf, sizeOf}
-use Rattle.writer.specs.WriteLaws.{size-done, write-done, wrote}
+use Rattle.table.specs.Sound.{sound-by}
+use Rattle.table.specs.Table.{Table}
+use Rattle.table.specs.declared.Answer.{Answer}
+use Rattle.table.specs.Check.{checkOf, Sound}
+use Rattle.book_read.specs.Read.{Reading, tableIn, taken, readOf}
+use Rattle.book_read.specs.ReadLaws.{read-done}
+use Rattle.book_write.specs.declared.Written.{Written}
+use Rattle.book_write.specs.Book.{bookOf}
+use Rattle.book_write.specs.Write.{written, writeOf, sizeOf}
+use Rattle.book_write.specs.WriteLaws.{size-done, write-done, wrote}
 use Rattle.rounds.specs.ReadWrite.{same-bytes}
-use Rattle.rounds.specs.Held.{Held}
+use Rattle.table.specs.RoundTrip.{HeldTable}
 use Rattle.rounds.specs.WriteRead.{same-table}
 
 -- the table of a reading
@@ -53,7 +52,7 @@ module _ (s : List ℕ) (b : Bytes s) (t : Table) (e : readOf s ≡ taken t) whe
 -- ---- a table that is written: its bytes are read, and give the table
 
 -- a write of t that is done with the bytes s gives a book that is read done with exactly t
-pub write-read : (t : Table) → Held t → (d s : List ℕ) → writeOf t d ≡ (written 0 255 (length s), put d 0 s)
+pub write-read : (t : Table) → HeldTable t → (d s : List ℕ) → writeOf t d ≡ (written 0 255 (length s), put d 0 s)
     → readOf s ≡ taken t
 write-read t held d s e =
     let w = wrote t d (ap (λ (x : Written × List ℕ). x .0 .number) e) in
@@ -65,7 +64,7 @@ write-read t held d s e =
 -- ---- what follows
 
 -- two different sound tables never have the same bytes
-pub tables-differ : (t u : Table) → Held t → Held u → Sound t → Sound u → bookOf t ≡ bookOf u → t ≡ u
+pub tables-differ : (t u : Table) → HeldTable t → HeldTable u → Sound t → Sound u → bookOf t ≡ bookOf u → t ≡ u
 tables-differ t u ht hu st su e = ap tableOf (sym (same-table t st ht) ∙ (ap readOf e ∙ same-table u su hu))
 
 -- two different books that are both read never give the same table

@@ -24,23 +24,22 @@ use Rattle.parts.specs.Parts.{ruleOf}
 use Rattle.pieces.specs.Pieces.{bodyBytes}
 use Rattle.pieces.specs.Rows.{slots-are}
 use Rattle.pieces.specs.ReadBack.{rule-read}
-use Rattle.book.specs.declared.Table.{Table}
-use Rattle.book.specs.Table.{ruleAt}
-use Rattle.book.specs.Check.{sizesBad, numberAt, cyclic, Sound}
-use Rattle.book.specs.Sound.{Parts, parts}
-use Rattle.reader.specs.Read.{nOf, kOf, startOf, lengthOf, endOf, ruleIn, tableIn, numberIn, taken, readOf}
-use Rattle.reader.specs.Read.{lengthBad, headBad, contentsBad}
-use Rattle.reader.specs.Inside.{Counts}
-use Rattle.reader.specs.ReadLaws.{number-table, none-refused}
-use Rattle.rounds.specs.Held.{Held}
-use Rattle.writer.specs.Book.{bodySize, startAt, entryBytes, contentsBytes, bodiesBytes, bookOf}
-use Rattle.writer.specs.BookLaws.{Ready, ready, size-most, start-most, largest}
-use Rattle.writer.specs.BookLaws.{length-contents, length-bodies, length-book}
-use Rattle.book.specs.Sound.{sizes-good}
-use Rattle.reader.specs.GoodLaws.{counts-good}
-use Rattle.rounds.specs.Slots.{past, empty-rule}
+use Rattle.table.specs.Table.{Table, ruleAt}
+use Rattle.table.specs.Check.{sizesBad, numberAt, cyclic, Sound}
+use Rattle.table.specs.Sound.{Parts, parts}
+use Rattle.book_read.specs.Read.{nOf, kOf, startOf, lengthOf, endOf, ruleIn, tableIn, numberIn, taken, readOf}
+use Rattle.book_read.specs.Read.{lengthBad, headBad, contentsBad}
+use Rattle.book_read.specs.Inside.{Counts}
+use Rattle.book_read.specs.ReadLaws.{number-table, none-refused}
+use Rattle.table.specs.RoundTrip.{HeldTable}
+use Rattle.book_write.specs.Book.{bodySize, startAt, entryBytes, contentsBytes, bodiesBytes, bookOf}
+use Rattle.book_write.specs.BookLaws.{Ready, ready, size-most, start-most, largest}
+use Rattle.book_write.specs.BookLaws.{length-contents, length-bodies, length-book}
+use Rattle.table.specs.Sound.{sizes-good}
+use Rattle.book_read.specs.GoodLaws.{counts-good}
+use Rattle.pieces.specs.Slots.{past, empty-rule}
 
-module _ (t : Table) (sound : Sound t) (held : Held t) where
+module _ (t : Table) (sound : Sound t) (held : HeldTable t) where
   abbrev s : List ℕ
   s = bookOf t
 
@@ -136,7 +135,7 @@ module _ (t : Table) (sound : Sound t) (held : Held t) where
   table-is : tableIn s ≡ t
   unfolding tableIn
   table-is =
-      let rs = slots-are 32 noRule blankRule (λ i. ruleIn s (startOf s i)) n rules (rd .few) (held .rules) body-is
+      let rs = slots-are 32 noRule blankRule (λ i. ruleIn s (startOf s i)) n rules (rd .few) (held .size) body-is
       (λ i h l. empty-rule (ruleAt t i) (held .rule i l) (good .slots i h l)) in
       λ k. record { n = n-is k; k = k-is k; rules = (ap (filled 32 noRule (λ i. ruleIn s (startOf s i))) n-is ∙ rs) k }
 

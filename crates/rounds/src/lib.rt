@@ -1,15 +1,20 @@
 // Both round trips: a book read and written again, a table written and read again.
 ghost use mathlib.Core.Path.{_≡_};
-ghost use Rattle.rounds.specs.Round.{rewriteOf, rereadOf};
-use book::Table;
-use reader::Reading;
-use writer::Written;
+ghost use lib.ListN.{length};
+ghost use Rattle.table.specs.Check.{Sound};
+ghost use Rattle.table.specs.Memory.{tableFrom};
+ghost use Rattle.book_read.specs.Read.{taken};
+ghost use Rattle.book_read.specs.Spread.{Spread};
+ghost use Rattle.book_write.specs.Book.{bookOf};
+ghost use Rattle.rounds.specs.Round.{Rewritten, Reread};
+use book_write::Written;
+use table::Answer;
 
-// Reads a book and writes its table: the same bytes again.
-pub fn rewrite(book: &[u8], out: &mut [u8]) -> Written
-    ensures { λ r. ⌜ (r, now (out .exit)) ≡ rewriteOf (now (book .entry)) (now (out .entry)) ⌝ }
+// Reads a book into the lent table and writes that table: the same bytes again.
+pub fn rewrite(book: &[u8], table: &mut [u8; 9092], out: &mut [u8]) -> Written
+    ensures { λ r. ⌜ Rewritten (now (book .entry)) (now (out .entry)) r (now (out .exit)) (now (table .exit)) ⌝ }
 {
-    let r = reader::read(book);
+    let r = book_read::read(book, table);
     if r.number != 0 {
         return Written {
             number: r.number,
@@ -17,23 +22,29 @@ pub fn rewrite(book: &[u8], out: &mut [u8]) -> Written
             length: 0,
         };
     }
-    let t = r.table;
-    writer::write(t, out)
+    book_write::write(table, out)
 }
 
-// Writes a table and reads the bytes back: the same table again.
-pub fn reread(t: Table, out: &mut [u8]) -> Reading
-    ensures { λ r. ⌜ (r, now (out .exit)) ≡ rereadOf t (now (out .entry)) ⌝ }
+// Reads the book of a sound table: the same table again. The table is lent for what this promises, and not read.
+fn read_back(table: &[u8], book: &[u8], again: &mut [u8; 9092]) -> Answer
+    requires { ⌜ (length (now table) ≡ 9092) × Sound (tableFrom (now table)) × (now book ≡ bookOf (tableFrom (now table))) ⌝ }
+    ensures { λ r. ⌜ Spread (taken (tableFrom (now (table .entry)))) r (now (again .exit)) ⌝ }
 {
-    let w = writer::write(t, out);
+    book_read::read(book, again)
+}
+
+// Writes a table and reads the bytes back into another: the same table again.
+pub fn reread(table: &[u8; 9092], out: &mut [u8], again: &mut [u8; 9092]) -> Answer
+    ensures { λ r. ⌜ Reread (tableFrom (now (table .entry))) (now (out .entry)) r (now (out .exit)) (now (again .exit)) ⌝ }
+{
+    let w = book_write::write(table, out);
     if w.number != 0 {
-        let x = book::no_table();
-        return Reading {
+        endian::put_zeros(again, 0, 9092);
+        return Answer {
             number: w.number,
             place: w.place,
-            table: x,
         };
     }
     let size = w.length;
-    reader::read(&out[..size])
+    read_back(table, &out[..size], again)
 }

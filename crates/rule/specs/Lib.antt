@@ -1,4 +1,4 @@
--- What the contracts of `rule`, `fields` and `numbers` cite: `Fill`, `Empty` and `Uses` say what a rule is and uses, `Numbers` what is
+-- What the contracts of `rule` and `rule_check` cite: `Fill`, `Empty` and `Uses` say what a rule is and uses, `Numbers` what is
 -- wrong with one; `Worked` has a rule with two faults.
 pub mod Fill
 pub mod Empty

@@ -1,16 +1,14 @@
 -- What it means that a number does not apply to a rule. Assumes nothing.
-use mathlib.Core.Path.{_≡_, refl, ap}
+use mathlib.Core.Path.{_≡_, refl}
 use mathlib.Core.Bool.{Bool, true, false, cond, _||_}
 use mathlib.Core.List.{List}
-use Prim.Native.Nat.{ℕ, _+_, _≤_, _<_}
+use Prim.Native.Nat.{ℕ, _+_, _≤_}
 use native.Mathlib.Omega.{arith}
 use lib.Dec.{ltb, eqb}
-use lib.ListN.{getD}
 use borrow.Author.Tests.{ltb-false, eqb-true, not-false}
-use Rattle.mask.specs.SearchLaws.{or-false-both, some-same}
+use Rattle.mask.specs.SearchLaws.{or-false-both}
 use Rattle.rule.specs.declared.Rule.{Rule}
-use Rattle.rule.specs.Empty.{blankRule}
-use Rattle.rule.specs.Numbers.{notZero, countsBad, cellsBad, formsBad, twice, lettersBad, sameName, nameTaken, ruleNumber}
+use Rattle.rule.specs.Numbers.{notZero, countsBad, cellsBad, formsBad, twice, lettersBad, nameTaken, ruleNumber}
 
 -- the counts of a rule that 5 does not refuse
 pub record Counted (r : Rule) : Type 0 where
@@ -63,14 +61,3 @@ clean n k rules i r e =
 pub unclean : (n k : ℕ) (rules : List Rule) (i : ℕ) (r : Rule) → Clean n k rules i r → ruleNumber n k rules i r ≡ 0
 unfolding ruleNumber
 unclean n k rules i r h = rw (h .counts, h .cells, h .forms, h .targets, h .letters, h .name)
-
--- a rule's number asks only for the rules before it
-pub number-same : (n k : ℕ) (rules others : List Rule) (i : ℕ) (r : Rule)
-    → ((h : ℕ) → h < i → getD rules h blankRule ≡ getD others h blankRule) → ruleNumber n k rules i r ≡ ruleNumber n k others i r
-unfolding ruleNumber nameTaken
-number-same n k rules others i r e =
-    ap
-    (λ (b : Bool).
-    cond (countsBad r) 5 (cond (cellsBad n k r) 6 (cond (formsBad r) 7 (cond (twice r) 8 (cond (lettersBad r || b) 9 0)))))
-    (some-same i (λ h. sameName (getD rules h blankRule) r) (λ h. sameName (getD others h blankRule) r)
-    (λ h l. ap (λ (x : Rule). sameName x r) (e h l)))

@@ -1,7 +1,6 @@
-// One rule of a book, by value: what it holds, what it uses, what is wrong with it.
+// One rule of a book: what it holds. What it uses and what is wrong with it is said in specs/.
 ghost use mathlib.Core.Path.{_≡_};
 ghost use Prim.Native.Nat.{_<_};
-ghost use Rattle.rule.specs.Empty.{noTest, noAssign, noRule};
 
 pub struct Test {
     pub left: u8,
@@ -32,50 +31,6 @@ pub struct Rule {
     pub tests: [Test; 8],
     pub assigns: [Assign; 8],
     pub name: [u8; 16],
-}
-
-pub fn no_test() -> Test
-    ensures { λ r. ⌜ r ≡ noTest ⌝ }
-{
-    Test {
-        left: 0,
-        comparison: 0,
-        kind: 0,
-        right: 0,
-        constant: 0,
-    }
-}
-
-pub fn no_assign() -> Assign
-    ensures { λ r. ⌜ r ≡ noAssign ⌝ }
-{
-    Assign {
-        target: 0,
-        operation: 0,
-        a: 0,
-        b: 0,
-        k: 0,
-        p: 0,
-        q: 0,
-    }
-}
-
-pub fn no_rule() -> Rule
-    ensures { λ r. ⌜ r ≡ noRule ⌝ }
-{
-    let x = no_test();
-    let y = no_assign();
-    Rule {
-        watch: 0,
-        precedes: 0,
-        t: 0,
-        a: 0,
-        m: 0,
-        zero: 0,
-        tests: [x; 8],
-        assigns: [y; 8],
-        name: [0; 16],
-    }
 }
 
 // A count, a cell or a rule's number as an index; a byte is below 256.

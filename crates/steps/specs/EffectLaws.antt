@@ -12,10 +12,9 @@ use Rattle.mask.specs.Search.{some}
 use Rattle.mask.specs.SearchLaws.{Found, some-intro, some-elim, some-none, and-true-both, or-true-cases, same-test}
 use Rattle.mask.specs.Mask.{has}
 use Rattle.rule.specs.Uses.{watches, writes}
-use Rattle.book.specs.declared.Table.{Table}
-use Rattle.book.specs.Table.{ruleAt}
-use Rattle.book.specs.Check.{Sound}
-use Rattle.book.specs.Sound.{parts}
+use Rattle.table.specs.Table.{Table, ruleAt}
+use Rattle.table.specs.Check.{Sound}
+use Rattle.table.specs.Sound.{parts}
 use Rattle.amounts.specs.Amounts.{at, differs, anyFalse, anyOut, stored, changes}
 use Rattle.amounts.specs.AmountsLaws.{length-stored}
 use Rattle.amounts.specs.Body.{faulty, acted, acted-keeps}

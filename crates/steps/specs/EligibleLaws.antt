@@ -8,11 +8,10 @@ use Rattle.mask.specs.Search.{count, some}
 use Rattle.mask.specs.SearchLaws.{Found, some-elim, and-true-both, count-lt, Least, least-is, lt-or-ge}
 use Rattle.mask.specs.MaskLaws.{lowest-has}
 use Rattle.mask.specs.Mask.{lowest}
-use Rattle.book.specs.declared.Table.{Table}
-use Rattle.book.specs.Table.{goesBefore}
-use Rattle.book.specs.Check.{Sound}
-use Rattle.book.specs.Sound.{parts}
-use Rattle.book.specs.Before.{irreflexive, transitive}
+use Rattle.table.specs.Table.{Table, goesBefore}
+use Rattle.table.specs.Check.{Sound}
+use Rattle.table.specs.Sound.{parts}
+use Rattle.table.specs.Before.{irreflexive, transitive}
 use Rattle.steps.specs.declared.State.{State}
 use Rattle.steps.specs.State.{Fits, waits, held, eligible, lowestOf}
 use Rattle.steps.specs.StateLaws.{fits-waiting}

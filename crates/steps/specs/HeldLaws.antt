@@ -3,8 +3,7 @@ use mathlib.Core.Path.{_≡_, refl, sym, ap₂, _∙_}
 use mathlib.Core.Bool.{Bool, true, false, _&&_, false≢true}
 use Prim.Native.Nat.{ℕ, _<_}
 use Rattle.mask.specs.SearchLaws.{some-none, some-false, and-true-both}
-use Rattle.book.specs.declared.Table.{Table}
-use Rattle.book.specs.Table.{goesBefore}
+use Rattle.table.specs.Table.{Table, goesBefore}
 use Rattle.steps.specs.declared.State.{State}
 use Rattle.steps.specs.State.{waits, held}
 

@@ -7,8 +7,8 @@ use mathlib.Core.List.{List}
 use Prim.Native.Nat.{ℕ, zero, suc}
 use lib.IntN.{ℤ}
 use Rattle.rule.specs.Numbers.{isZero, notZero}
-use Rattle.book.specs.declared.Table.{Table}
-use Rattle.book.specs.Check.{checkOf}
+use Rattle.table.specs.Table.{Table}
+use Rattle.table.specs.Check.{checkOf}
 use Rattle.steps.specs.declared.State.{State}
 use Rattle.steps.specs.declared.Ran.{Ran}
 use Rattle.steps.specs.State.{stateBad, still, zeros}

@@ -1,4 +1,4 @@
--- What the contracts of `moves` and `machine` cite: `State`, `Step` and `Run` are the definitions, the others their laws; `Worked`
+-- What the contracts of `machine_step` and `machine` cite: `State`, `Step` and `Run` are the definitions, the others their laws; `Worked`
 -- has steps that are computed, those of two books for `confluence`.
 pub mod State
 pub mod Step

@@ -1,7 +1,7 @@
 -- When a posting and a fresh state are done, and that Fits is kept. Assumes nothing.
 use mathlib.Core.Path.{_≡_, _∙_}
 use mathlib.Core.List.{List}
-use mathlib.Core.Bool.{false, _||_}
+use mathlib.Core.Bool.{true, false, cond, _||_}
 use Prim.Native.Nat.{ℕ, _<_}
 use lib.Dec.{leb, lit<}
 use lib.ListN.{length, set, length-set}
@@ -9,8 +9,8 @@ use lib.IntN.{ℤ}
 use borrow.Author.Tests.{leb-false, lt-leb}
 use Rattle.mask.specs.SearchLaws.{or-false-both}
 use Rattle.rule.specs.Numbers.{outOfRange}
-use Rattle.book.specs.declared.Table.{Table}
-use Rattle.book.specs.Check.{Sound}
+use Rattle.table.specs.Table.{Table}
+use Rattle.table.specs.Check.{Sound}
 use Rattle.steps.specs.declared.State.{State}
 use Rattle.steps.specs.State.{stateBad, Fits, still, zeros}
 use Rattle.steps.specs.StateLaws.{renewed-fits, set-good}
@@ -32,6 +32,15 @@ posting t s cell value e =
     record { good = a .0; below = leb-false (t .k) cell (c .0); range = c .1 }
 
 module _ (t : Table) (s : State) (cell : ℕ) (value : ℤ) where
+  -- the number, test by test
+  pub post-11 : stateBad t s ≡ true → postNumber t s cell value ≡ 11
+  unfolding postNumber
+  post-11 e = rw e
+
+  pub post-16 : stateBad t s ≡ false → postNumber t s cell value ≡ cond (leb (t .k) cell || outOfRange value) 16 0
+  unfolding postNumber
+  post-16 e = rw e
+
   pub post-is : Sound t → Fits t s → cell < t .k → outOfRange value ≡ false
       → postOf t s cell value ≡ moved 0 255 (renewed t s (set (s .cells) cell value))
   unfolding postOf postNumber

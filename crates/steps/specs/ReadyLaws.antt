@@ -1,9 +1,8 @@
 -- A rule of a sound table can be stepped. Assumes nothing.
 use Prim.Native.Nat.{ℕ, _<_}
-use Rattle.book.specs.declared.Table.{Table}
-use Rattle.book.specs.Table.{ruleAt}
-use Rattle.book.specs.Check.{Sound}
-use Rattle.book.specs.Sound.{parts}
+use Rattle.table.specs.Table.{Table, ruleAt}
+use Rattle.table.specs.Check.{Sound}
+use Rattle.table.specs.Sound.{parts}
 use Rattle.amounts.specs.Ready.{Ready}
 use Rattle.amounts.specs.ReadyLaws.{ready}
 

@@ -1,16 +1,16 @@
 -- The run is the iteration of the step on the lowest-numbered eligible rule, and counts those steps. Assumes nothing.
 use mathlib.Core.Path.{_≡_, refl, sym, ap, _∙_, subst}
-use mathlib.Core.Bool.{cond}
+use mathlib.Core.Bool.{true, cond}
 use Prim.Native.Nat.{ℕ, zero, suc, _+_, _-_, _<_, _≤_}
 use native.Mathlib.Decide.{ℕ-discrete}
 use native.Mathlib.Omega.{arith}
 use lib.Dec.{eqb·suc-zero}
 use borrow.Author.Tests.{eq-eqb, ne-eqb}
 use Rattle.rule.specs.Numbers.{notZero}
-use Rattle.book.specs.declared.Table.{Table}
-use Rattle.book.specs.declared.Answer.{Answer}
-use Rattle.book.specs.Sound.{sound-by}
-use Rattle.book.specs.Check.{checkOf, Sound}
+use Rattle.table.specs.Table.{Table}
+use Rattle.table.specs.declared.Answer.{Answer}
+use Rattle.table.specs.Sound.{sound-by}
+use Rattle.table.specs.Check.{checkOf, Sound}
 use Rattle.steps.specs.declared.State.{State}
 use Rattle.steps.specs.declared.Ran.{Ran}
 use Rattle.steps.specs.State.{stateBad, Fits, lowestOf}
@@ -102,6 +102,15 @@ runs-steps t s (suc budget) sd h = pick (ℕ-discrete (s .waiting) 0) (runs-step
 -- ---- the call
 
 module _ (t : Table) (s : State) (budget : ℕ) where
+  -- refused by the table; refused by 11; run
+  pub run-table : (a : Answer) → a ≡ checkOf t → (a .number ≡ 0 → ⊥) → ran (a .number) (a .place) s 0 ≡ runOf t s budget
+  unfolding runOf
+  run-table a e ne = rw (← e, ne-eqb (a .number) 0 ne)
+
+  pub run-11 : Sound t → stateBad t s ≡ true → runOf t s budget ≡ ran 11 255 s 0
+  unfolding runOf
+  run-11 sd e = rw (ap (λ (a : Answer). a .number) (sd .checked), e)
+
   pub run-is : Sound t → Fits t s → runOf t s budget ≡ runs t s budget
   unfolding runOf
   run-is sd h = rw (ap (λ (a : Answer). a .number) (sd .checked), h .good)

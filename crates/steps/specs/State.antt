@@ -9,8 +9,7 @@ use lib.IntN.{ℤ, pos}
 use Rattle.mask.specs.Search.{some, least}
 use Rattle.mask.specs.Mask.{has, beyond}
 use Rattle.rule.specs.Numbers.{outOfRange, notZeroZ, slotted}
-use Rattle.book.specs.declared.Table.{Table}
-use Rattle.book.specs.Table.{goesBefore}
+use Rattle.table.specs.Table.{Table, goesBefore}
 use Rattle.amounts.specs.Amounts.{at}
 use Rattle.steps.specs.declared.State.{State}
 

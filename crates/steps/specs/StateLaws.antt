@@ -15,8 +15,7 @@ use Rattle.mask.specs.Loops.{maskOf-lt}
 use Rattle.rule.specs.declared.Rule.{Rule}
 use Rattle.rule.specs.Uses.{watches, assignAt}
 use Rattle.rule.specs.Numbers.{outOfRange, notZeroZ, slotted}
-use Rattle.book.specs.declared.Table.{Table}
-use Rattle.book.specs.Table.{ruleAt}
+use Rattle.table.specs.Table.{Table, ruleAt}
 use Rattle.amounts.specs.Amounts.{at, valueOf, anyOut, stored, changes}
 use Rattle.amounts.specs.AmountsLaws.{at-set, stored-all}
 use Rattle.amounts.specs.Ready.{InRange}
@@ -55,6 +54,7 @@ module _ (t : Table) (s : State) (h : Fits t s) where
   pub fits-range : InRange (s .cells)
   fits-range =
       record {
+        long = h .long;
         each = λ c.
             ⊎-elim (λ l. cell-range (ltb c (t .k)) (at (s .cells) c) (fits-cell c l))
             (λ l. ap outOfRange (List·getD-eq-default (s .cells) (pos 0) (subst (λ (n : ℕ). n ≤ c) (sym (h .long)) l)))

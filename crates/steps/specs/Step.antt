@@ -9,9 +9,8 @@ use Rattle.mask.specs.Search.{some}
 use Rattle.mask.specs.Mask.{has, maskOf}
 use Rattle.rule.specs.Uses.{watches}
 use Rattle.rule.specs.Numbers.{outOfRange, notZero}
-use Rattle.book.specs.declared.Table.{Table}
-use Rattle.book.specs.Table.{ruleAt}
-use Rattle.book.specs.Check.{checkOf}
+use Rattle.table.specs.Table.{Table, ruleAt}
+use Rattle.table.specs.Check.{checkOf}
 use Rattle.amounts.specs.Amounts.{anyFalse, anyOut, stored, changes}
 use Rattle.steps.specs.declared.State.{State}
 use Rattle.steps.specs.declared.Moved.{Moved}

@@ -2,18 +2,17 @@
 -- `EffectLaws`. Assumes nothing.
 use mathlib.Core.Path.{_≡_, refl, sym, ap, ap₂, _∙_}
 use mathlib.Core.Bool.{Bool, true, false, not, cond, _&&_}
-use Prim.Native.Nat.{ℕ, zero, suc, _<_}
+use Prim.Native.Nat.{ℕ, zero, suc, _≤_, _<_}
 use native.Mathlib.Omega.{arith}
 use lib.Dec.{leb, eqb·suc-zero}
-use borrow.Author.Tests.{leb-false, lt-leb, ne-eqb, not-false, not-true}
+use borrow.Author.Tests.{le-leb, leb-false, lt-leb, ne-eqb, not-false, not-true}
 use Rattle.mask.specs.SearchLaws.{and-true-both}
 use Rattle.rule.specs.Numbers.{notZero}
-use Rattle.book.specs.declared.Table.{Table}
-use Rattle.book.specs.declared.Answer.{Answer}
-use Rattle.book.specs.Sound.{sound-by}
-use Rattle.book.specs.Check.{checkOf, Sound}
+use Rattle.table.specs.Table.{Table}
+use Rattle.table.specs.declared.Answer.{Answer}
+use Rattle.table.specs.Sound.{sound-by}
+use Rattle.table.specs.Check.{checkOf, Sound}
 use Rattle.steps.specs.declared.State.{State}
-use Rattle.steps.specs.declared.Moved.{Moved}
 use Rattle.steps.specs.State.{stateBad, Fits, waits, held, eligible}
 use Rattle.steps.specs.Step.{effect, moved, answered, stepNumber, stepOf}
 use Rattle.steps.specs.EffectLaws.{effect-fits}
@@ -47,6 +46,25 @@ module _ (t : Table) (s : State) (r : ℕ) where
   pub stepping-number : Stepping t s r → stepNumber t s r ≡ 0
   unfolding stepNumber
   stepping-number h = rw (h .good, lt-leb (t .n) r (h .below), h .waiting, h .free)
+
+  -- the number, test by test
+  pub number-11 : stateBad t s ≡ true → stepNumber t s r ≡ 11
+  unfolding stepNumber
+  number-11 e = rw e refl
+
+  module _ (fits : stateBad t s ≡ false) where
+    pub number-12 : t .n ≤ r → stepNumber t s r ≡ 12
+    unfolding stepNumber
+    number-12 l = rw (fits, le-leb (t .n) r l) refl
+
+    module _ (l : r < t .n) where
+      pub number-13 : waits s r ≡ false → stepNumber t s r ≡ 13
+      unfolding stepNumber
+      number-13 e = rw (fits, lt-leb (t .n) r l, e) refl
+
+      pub number-14 : waits s r ≡ true → stepNumber t s r ≡ cond (held t s r) 14 0
+      unfolding stepNumber
+      number-14 e = rw (fits, lt-leb (t .n) r l, e) refl
 
 -- ---- an answer
 
@@ -104,13 +122,15 @@ module _ (t : Table) (number : ℕ) (given after : State) where
       pick (suc a) b e q = rw (eqb·suc-zero a) h
 
 -- what a call's first check tells: the table is sound, or its answer is the call's
-module _ (t : Table) (given : State) (m : Moved) (e : m ≡ moved (checkOf t .number) (checkOf t .place) given) where
-  pub checked-sound : m .number ≡ 0 → Sound t
-  checked-sound z = sound-by t (ap (λ (x : Moved). x .number) (sym e) ∙ z)
+module _ (t : Table) (a : Answer) (e : a ≡ checkOf t) where
+  pub checked-sound : a .number ≡ 0 → Sound t
+  checked-sound z = sound-by t (ap (λ (x : Answer). x .number) (sym e) ∙ z)
 
-  pub checked-refused : (m .number ≡ 0 → ⊥) → (number : ℕ) (after : State) → m ≡ answered t number given after
-  checked-refused ne number after =
-      e ∙ sym (answered-table t number given after (λ z. ne (ap (λ (x : Moved). x .number) e ∙ z)))
+  pub checked-refused : (a .number ≡ 0 → ⊥) → (number : ℕ) (given after : State)
+      → moved (a .number) (a .place) given ≡ answered t number given after
+  checked-refused ne number given after =
+      ap (λ (x : Answer). moved (x .number) (x .place) given) e
+      ∙ sym (answered-table t number given after (λ z. ne (ap (λ (x : Answer). x .number) e ∙ z)))
 
 -- ---- the step
 

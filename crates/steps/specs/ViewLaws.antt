@@ -13,10 +13,9 @@ use Rattle.mask.specs.SearchLaws.{some-same}
 use Rattle.mask.specs.Mask.{has}
 use Rattle.rule.specs.Fill.{upto, length-upto, getD-upto}
 use Rattle.rule.specs.Uses.{watches, reads, writes}
-use Rattle.book.specs.declared.Table.{Table}
-use Rattle.book.specs.Table.{ruleAt}
-use Rattle.book.specs.Check.{Sound}
-use Rattle.book.specs.Sound.{parts}
+use Rattle.table.specs.Table.{Table, ruleAt}
+use Rattle.table.specs.Check.{Sound}
+use Rattle.table.specs.Sound.{parts}
 use Rattle.amounts.specs.Amounts.{at, differs, changes}
 use Rattle.amounts.specs.AmountsLaws.{Agree}
 use Rattle.amounts.specs.Body.{faulty, acted, acted-keeps, acted-local, faulty-local}

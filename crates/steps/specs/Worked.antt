@@ -13,9 +13,9 @@ use Rattle.rule.specs.declared.Assign.{Assign}
 use Rattle.rule.specs.declared.Rule.{Rule}
 use Rattle.rule.specs.Empty.{noTest, noAssign, noRule}
 use Rattle.rule.specs.Numbers as Numbers
-use Rattle.book.specs.declared.Table.{Table}
-use Rattle.book.specs.Table as Table
-use Rattle.book.specs.Check as Check
+use Rattle.table.specs.Table.{Table}
+use Rattle.table.specs.Table as Table
+use Rattle.table.specs.Check as Check
 use Rattle.amounts.specs.Amounts as Amounts
 use Rattle.steps.specs.declared.State.{State}
 use Rattle.steps.specs.State as State

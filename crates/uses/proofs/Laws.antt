@@ -1,12 +1,14 @@
 -- One cell as a set, and tests taken out of a choice. Assumes nothing.
-use mathlib.Core.Path.{_≡_, refl, ap₂}
+use mathlib.Core.Path.{_≡_, refl, sym, ap, ap₂, _∙_}
 use mathlib.Core.Bool.{Bool, true, false, _&&_, _||_, false≢true}
 use Prim.Native.Nat.{ℕ, _≤_, _<_}
 use native.Mathlib.Omega.{arith}
 use lib.Dec.{eqb, ltb}
+use lib.ListN.{getD}
 use borrow.Author.Tests.{lt-ltb, eqb-true, ltb-true}
 use Rattle.mask.specs.Search.{some}
 use Rattle.mask.specs.SearchLaws.{same-test, and-true-both, Found, some-elim}
+use Rattle.rule.specs.Fill.{filled, some-filled}
 
 -- a cell below 32 is below 32
 pub low : (c : ℕ) → c < 32 → (x : ℕ) → eqb x c ≡ (ltb x 32 && eqb x c)
@@ -40,3 +42,9 @@ out-both false false b false d = refl
 pub out-some : (l : Bool) (n : ℕ) (f : ℕ → Bool) → some n (λ j. l && f j) ≡ (l && some n f)
 out-some true n f = refl
 out-some false n f = same-test (some n (λ j. false)) false (λ e. let w : Found n (λ j. false) = some-elim n (λ j. false) e in w .is) (λ e. absurd (false≢true e))
+
+-- the same of a search through filled slots
+pub out-filled : {A : Type 0} (l : Bool) (n : ℕ) (d : A) (f : ℕ → A) (t : ℕ) (g : A → Bool) → n ≤ t
+    → some n (λ j. l && g (f j)) ≡ (l && some n (λ j. g (getD (filled 8 d f t) j d)))
+out-filled l n d f t g few =
+    out-some l n (λ j. g (f j)) ∙ ap (λ (b : Bool). l && b) (sym (some-filled 8 d f t n g few))

@@ -1,15 +1,16 @@
-// The cells that a rule reads and writes, as masks: of cells below 32, which is all of them in a sound table.
+// The cells that a rule reads and writes, as masks, from the bytes where it lies, in a table or in a book: of cells below 32, which is
+// all of them where it is sound.
 ghost use mathlib.Core.Path.{_≡_};
 ghost use mathlib.Core.Bool.{_&&_};
-ghost use Prim.Native.Nat.{ℕ, _≤_};
+ghost use Prim.Native.Nat.{ℕ, _+_, _*_, _≤_};
 ghost use lib.Dec.{ltb, eqb};
-ghost use lib.ListN.{getD};
+ghost use lib.ListN.{length};
 ghost use Rattle.mask.specs.Search.{some};
 ghost use Rattle.mask.specs.Mask.{has};
-ghost use Rattle.rule.specs.Empty.{noTest, noAssign};
+ghost use Rattle.endian.specs.Little.{byteAt};
 ghost use Rattle.rule.specs.Uses.{testReads, sideReads, reads, writes};
+ghost use Rattle.parts.specs.Parts.{testIn, assignIn, ruleOf, Room};
 use rule::Assign;
-use rule::Rule;
 use rule::Test;
 use rule::count;
 
@@ -40,55 +41,53 @@ fn side_reads(s: Assign) -> u32
     kept((1 <= op) & (op <= 4), cell(s.a)) | kept((op == 2) | (op == 3), cell(s.b))
 }
 
-fn tests_read(xs: [Test; 8], t: usize) -> u32
-    requires { ⌜ t ≤ 8 ⌝ }
-    ensures { λ m. ⌜ ((x : ℕ) → has m x ≡ some t (λ j. ltb x 32 && testReads (getD xs j noTest) x)) ⌝ }
+fn tests_read(s: &[u8], p: usize, t: usize) -> u32
+    requires { ⌜ (t ≤ 8) × (p + 12 * t ≤ length (now s)) ⌝ }
+    ensures { λ m. ⌜ ((x : ℕ) → has m x ≡ some t (λ j. ltb x 32 && testReads (testIn (now (s .entry)) (p + 12 * j)) x)) ⌝ }
 {
     let mut m = 0;
     for j in 0..t {
-        m = test_reads(xs[j]) | m;
+        m = test_reads(parts::read_test(s, p + 12 * j)) | m;
     }
     m
 }
 
-fn sides_read(xs: [Assign; 8], a: usize) -> u32
-    requires { ⌜ a ≤ 8 ⌝ }
-    ensures { λ m. ⌜ ((x : ℕ) → has m x ≡ some a (λ j. ltb x 32 && sideReads (getD xs j noAssign) x)) ⌝ }
+fn sides_read(s: &[u8], p: usize, a: usize) -> u32
+    requires { ⌜ (a ≤ 8) × (p + 20 * a ≤ length (now s)) ⌝ }
+    ensures { λ m. ⌜ ((x : ℕ) → has m x ≡ some a (λ j. ltb x 32 && sideReads (assignIn (now (s .entry)) (p + 20 * j)) x)) ⌝ }
 {
     let mut m = 0;
     for j in 0..a {
-        m = side_reads(xs[j]) | m;
+        m = side_reads(parts::read_assign(s, p + 20 * j)) | m;
     }
     m
 }
 
-fn targets(xs: [Assign; 8], a: usize) -> u32
-    requires { ⌜ a ≤ 8 ⌝ }
-    ensures { λ m. ⌜ ((x : ℕ) → has m x ≡ some a (λ j. ltb x 32 && eqb x (getD xs j noAssign .target))) ⌝ }
+fn targets(s: &[u8], p: usize, a: usize) -> u32
+    requires { ⌜ (a ≤ 8) × (p + 20 * a ≤ length (now s)) ⌝ }
+    ensures { λ m. ⌜ ((x : ℕ) → has m x ≡ some a (λ j. ltb x 32 && eqb x (byteAt (now (s .entry)) (p + 20 * j)))) ⌝ }
 {
     let mut m = 0;
     for j in 0..a {
-        let y = xs[j];
-        m = cell(y.target) | m;
+        m = cell(s[p + 20 * j]) | m;
     }
     m
 }
 
-// The cells that a rule reads.
-pub fn reads(r: Rule) -> u32
-    requires { ⌜ (r .t ≤ 8) × (r .a ≤ 8) ⌝ }
-    ensures { λ m. ⌜ ((x : ℕ) → has m x ≡ (ltb x 32 && reads r x)) ⌝ }
+// The cells that the rule whose head is at `at` reads; it has room for t tests and a assignments.
+pub fn reads(s: &[u8], at: usize, t: usize, a: usize) -> u32
+    requires { ⌜ Room (now s) at t a 0 × (byteAt (now s) (at + 8) ≤ t) × (byteAt (now s) (at + 9) ≤ a) ⌝ }
+    ensures { λ r. ⌜ ((x m : ℕ) → has r x ≡ (ltb x 32 && reads (ruleOf (now (s .entry)) at t a m) x)) ⌝ }
 {
-    let tests = r.tests;
-    let assigns = r.assigns;
-    tests_read(tests, count(r.t)) | sides_read(assigns, count(r.a))
+    let ct = count(s[at + 8]);
+    let ca = count(s[at + 9]);
+    tests_read(s, at + 12, ct) | sides_read(s, at + 12 + 12 * t, ca)
 }
 
-// The cells that a rule writes.
-pub fn writes(r: Rule) -> u32
-    requires { ⌜ r .a ≤ 8 ⌝ }
-    ensures { λ m. ⌜ ((x : ℕ) → has m x ≡ (ltb x 32 && writes r x)) ⌝ }
+// The cells that it writes.
+pub fn writes(s: &[u8], at: usize, t: usize, a: usize) -> u32
+    requires { ⌜ Room (now s) at t a 0 × (byteAt (now s) (at + 9) ≤ a) ⌝ }
+    ensures { λ r. ⌜ ((x m : ℕ) → has r x ≡ (ltb x 32 && writes (ruleOf (now (s .entry)) at t a m) x)) ⌝ }
 {
-    let assigns = r.assigns;
-    targets(assigns, count(r.a))
+    targets(s, at + 12 + 12 * t, count(s[at + 9]))
 }

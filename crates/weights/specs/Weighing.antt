@@ -9,7 +9,7 @@ use native.Mathlib.Nat.{le-trans, le-of-eq, mul-le-mul-left, mul-le-mul-right, m
 use native.Mathlib.Decide.{ℕ-discrete}
 use native.Mathlib.Omega.{arith}
 use lib.Dec.{eqb}
-use lib.ListN.{getD, set, length, replicate}
+use lib.ListN.{getD, set, length, replicate, length-set}
 use lib.Pow.{pow-pos, pow-mono}
 use lib.Seq.{getD-set-same, getD-set-other}
 use borrow.Author.Tests.{eq-eqb, ne-eqb}
@@ -34,12 +34,14 @@ Room w left = (whole 32 (at w) + 1) * 2 ^ count 32 (has left) ≤ 2 ^ 32
 
 -- the rules outside `left` are weighed, those of `left` are not
 pub record Weighable (trig : List ℕ) (left : ℕ) (w : List ℕ) : Type 0 where
+  pub size : length w ≡ 32
   pub rows : Rows 32 trig
   pub room : Room w left
   pub halted : (r s : ℕ) → Edge trig r s → has left s ≡ false → Halts trig s
 
 -- v has the weights of the rules of `left` that halt, and is w elsewhere
 pub record Weighed (trig : List ℕ) (left : ℕ) (w v : List ℕ) : Type 0 where
+  pub size : length v ≡ length w
   pub weight : (r : ℕ) → has left r ≡ true → Halts trig r → at v r ≡ 1 + total 32 (getD trig r 0) (at v)
   pub endless : (r : ℕ) → (Halts trig r → ⊥) → at v r ≡ at w r
   pub same : (r : ℕ) → has left r ≡ false → at v r ≡ at w r
@@ -111,6 +113,7 @@ pub weighed-none : (trig : List ℕ) (left : ℕ) (w : List ℕ) (r : ℕ) → l
     → Weighable trig left w → Weighed trig left w w
 weighed-none trig left w r fl l d a =
     record {
+      size = refl;
       weight = λ x e h. absurd (stuck fl (λ y m. d .passed y (le-trans m l)) h e);
       endless = λ x h. refl;
       same = λ x e. refl;
@@ -119,9 +122,12 @@ weighed-none trig left w r fl l d a =
 
 -- ---- a call that weighs r
 
-module _ (trig : List ℕ) (left left′ : ℕ) (w : List ℕ) (r : ℕ) (lr : r < 32) (lw : r < length w)
+module _ (trig : List ℕ) (left left′ : ℕ) (w : List ℕ) (r : ℕ) (lr : r < 32)
     (d : Ready trig left r) (a : Weighable trig left w)
     (hl : (k : ℕ) → has left′ k ≡ (has left k && not (eqb k r))) where
+  lw : r < length w
+  lw = omega (arith, a .size)
+
   ready-halts : Halts trig r
   ready-halts =
       halts (λ s e. a .halted r s e (outside trig left r (d .taken lr .1) s (has-lt 32 s (a .rows r) e) e))
@@ -130,6 +136,7 @@ module _ (trig : List ℕ) (left left′ : ℕ) (w : List ℕ) (r : ℕ) (lr : r
       → Weighable trig left′ (set w r v)
   weighable-next v lv e =
       record {
+        size = length-set w r v ∙ a .size;
         rows = a .rows;
         room = room-next w left left′ r v lw lv e (a .room);
         halted = λ x s edge out.
@@ -147,6 +154,7 @@ module _ (trig : List ℕ) (left left′ : ℕ) (w : List ℕ) (r : ℕ) (lr : r
       → Weighed trig left′ (set w r (t + 1)) v → Weighed trig left w v
   weighed-more v t q u =
       record {
+        size = u .size ∙ length-set w r (t + 1);
         weight = λ x e h.
             elim (ℕ-discrete x r) [
               | yes z ↦ subst (λ (y : ℕ). at v y ≡ 1 + total 32 (getD trig y 0) (at v)) (sym z) here

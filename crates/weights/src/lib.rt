@@ -6,9 +6,9 @@ ghost use Rattle.weights.specs.Weight.{total, whole, at, Weights};
 ghost use Rattle.weights.specs.Weighing.{Ready, Weighable, Weighed};
 
 // The sum of w over the members of m: the step bound of the set, where w are the weights.
-pub fn total(w: [u32; 32], m: u32) -> u32
-    requires { ⌜ whole 32 (at w) < 2 ^ 32 ⌝ }
-    ensures { λ r. ⌜ r ≡ total 32 m (at w) ⌝ }
+pub fn total(w: &[u32; 32], m: u32) -> u32
+    requires { ⌜ whole 32 (at (now w)) < 2 ^ 32 ⌝ }
+    ensures { λ r. ⌜ r ≡ total 32 m (at (now (w .entry))) ⌝ }
 {
     let mut t = 0;
     for x in 0..32 {
@@ -20,8 +20,8 @@ pub fn total(w: [u32; 32], m: u32) -> u32
 }
 
 // The lowest rule of `left` that may trigger none of `left`, or 32.
-fn ready(trig: [u32; 32], left: u32) -> usize
-    ensures { λ r. ⌜ Ready trig left r ⌝ }
+fn ready(trig: &[u32; 32], left: u32) -> usize
+    ensures { λ r. ⌜ Ready (now (trig .entry)) left r ⌝ }
 {
     for x in 0..32 {
         if mask::has(left, x) {
@@ -35,25 +35,24 @@ fn ready(trig: [u32; 32], left: u32) -> usize
 
 // Each call weighs one rule whose triggered rules are all weighed, then calls itself; the rules of `left` are not
 // weighed.
-fn weigh(trig: [u32; 32], left: u32, w: [u32; 32]) -> [u32; 32]
-    requires { ⌜ Weighable trig left w ⌝ }
-    ensures { λ v. ⌜ Weighed trig left w v ⌝ }
+fn weigh(trig: &[u32; 32], left: u32, w: &mut [u32; 32])
+    requires { ⌜ Weighable (now trig) left (now w) ⌝ }
+    ensures { λ _. ⌜ Weighed (now (trig .entry)) left (now (w .entry)) (now (w .exit)) ⌝ }
 {
     let r = ready(trig, left);
     if r < 32 {
         let t = total(w, trig[r]);
-        let mut v = w;
-        v[r] = t + 1;
-        weigh(trig, mask::without(left, r), v)
-    } else {
-        w
+        w[r] = t + 1;
+        weigh(trig, mask::without(left, r), w);
     }
 }
 
 // The weights of the rules below n.
-pub fn weights(trig: [u32; 32], n: usize) -> [u32; 32]
-    requires { ⌜ (n ≤ 32) × Rows n trig ⌝ }
-    ensures { λ v. ⌜ Weights trig n v ⌝ }
+pub fn weights(trig: &[u32; 32], n: usize) -> [u32; 32]
+    requires { ⌜ (n ≤ 32) × Rows n (now trig) ⌝ }
+    ensures { λ v. ⌜ Weights (now (trig .entry)) n v ⌝ }
 {
-    weigh(trig, mask::below(n), [0; 32])
+    let mut w = [0u32; 32];
+    weigh(trig, mask::below(n), &mut w);
+    w
 }

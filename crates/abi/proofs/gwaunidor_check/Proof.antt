@@ -1,17 +1,13 @@
--- The check of what was loaded.
+-- The answer is what the check ensures.
 use mathlib.Core.Path.{ap, _∙_}
-use borrow.Author.Needs.{needs}
-use Rattle.book.specs.declared.Answer.{Answer}
-use Rattle.book.specs.Check.{checkOf}
+use Rattle.table.specs.declared.Answer.{Answer}
 use Rattle.abi.specs.Code.{codeOf}
+use borrow.Author.Needs.{needs}
 use Rattle.abi.proofs.gwaunidor_check.Statement.{statement}
 use Rattle.abi.proofs.gwaunidor_check.Tie as tie
 
 returns : tie.Need-returns
-returns c =
-    c .code .ensures
-    ∙ ap (λ (a : Answer). codeOf (a .number) (a .place))
-    (c .before .check .ensures ∙ ap checkOf (c .before .before .load .ensures))
+returns c = c .code .ensures ∙ ap (λ (a : Answer). codeOf (a .number) (a .place)) (c .before .check .ensures)
 
 pub gwaunidor-check-spec : {M : Type 1} → statement M
-gwaunidor-check-spec = tie.close (tie.spec (λ c κs. search needs) (λ c κs. search needs) (λ c κs. search needs) returns)
+gwaunidor-check-spec = tie.close (tie.spec (λ c κs. search needs) (λ c κs. search needs) returns)

@@ -1,8 +1,5 @@
--- The report is what the analysis ensures of the table that was loaded, and the bytes are its.
-use mathlib.Core.Path.{subst}
+-- The report is what the analysis ensures, and the bytes are its.
 use borrow.Author.Needs.{needs}
-use Rattle.book.specs.declared.Table.{Table}
-use Rattle.analysis.specs.Says.{ReportSays}
 use Rattle.abi.proofs.gwaunidor_report.Statement.{statement}
 use Rattle.abi.proofs.gwaunidor_report.Tie as tie
 
@@ -11,11 +8,10 @@ returns c =
     let p = c .before .before .before in
     record {
       report = p .report .result;
-      says = subst (λ (t : Table). ReportSays t (p .report .result)) (p .before .load .ensures) (p .report .ensures);
+      says = p .report .ensures;
       bytes = c .before .store-report .ensures;
       returned = c .code .ensures;
     }
 
 pub gwaunidor-report-spec : {M : Type 1} → statement M
-gwaunidor-report-spec =
-    tie.close (tie.spec (λ c κs. search needs) (λ c κs. search needs) (λ c κs. search needs) (λ c κs. search needs) returns)
+gwaunidor-report-spec = tie.close (tie.spec (λ c κs. search needs) (λ c κs. search needs) (λ c κs. search needs) returns)

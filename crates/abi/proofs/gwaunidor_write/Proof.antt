@@ -1,29 +1,26 @@
--- The buffer and the length are what the writer ensures of the table that was loaded.
+-- The buffer and the length are what the writer ensures.
 use mathlib.Core.Path.{ap, _∙_}
 use mathlib.Core.List.{List}
 use Prim.Native.Nat.{ℕ}
 use native.Mathlib.Omega.{arith}
-use borrow.Author.Needs.{needs}
-use Rattle.book.specs.declared.Table.{Table}
-use Rattle.writer.specs.declared.Written.{Written}
-use Rattle.writer.specs.Write.{writeOf}
-use Rattle.writer.specs.WriteLaws.{write-largest}
+use Rattle.table.specs.Memory.{tableFrom}
+use Rattle.book_write.specs.declared.Written.{Written}
+use Rattle.book_write.specs.WriteLaws.{write-largest}
 use Rattle.abi.specs.Code.{codeOf}
+use borrow.Author.Needs.{needs}
 use Rattle.abi.proofs.gwaunidor_write.Statement.{statement}
 use Rattle.abi.proofs.gwaunidor_write.Tie as tie
 
 cast-written : tie.Need-cast-written
 cast-written c =
     let p = c .before .before .before in
-    let l = p .before .before in
+    let a = p .before .before .before .args in
     let e = ap (λ (w : Written × List ℕ). w .0 .length) (p .write .ensures) in
-    record { fits = omega (arith, e, write-largest (l .load .result) (l .before .before .args .out .now)) }
+    record { fits = omega (arith, e, write-largest (tableFrom (a .table .now)) (a .out .now)) }
 
 returns : tie.Need-returns
 returns c =
-    let p = c .before .before .before .before in
-    let l = p .before .before in
-    let e = p .write .ensures ∙ ap (λ (t : Table). writeOf t (l .before .before .args .out .now)) (l .load .ensures) in
+    let e = c .before .before .before .before .write .ensures in
     record {
       bytes = ap (λ (w : Written × List ℕ). w .1) e;
       written = ap (λ (w : Written × List ℕ). w .0 .length) e;
@@ -32,5 +29,4 @@ returns c =
 
 pub gwaunidor-write-spec : {M : Type 1} → statement M
 gwaunidor-write-spec =
-    tie.close
-    (tie.spec (λ c κs. search needs) (λ c κs. search needs) cast-written (λ c κs. search needs) (λ c. search needs) returns)
+    tie.close (tie.spec (λ c κs. search needs) cast-written (λ c κs. search needs) (λ c. search needs) returns)

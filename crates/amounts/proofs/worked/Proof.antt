@@ -12,13 +12,13 @@ use Rattle.amounts.proofs.worked.Tie as tie
 
 -- the two cells and the constant, read
 left : (c : tie.After-struct-told) → let a = c .before .before .before .before .before .args in
-    toZ w64 (ofZ w64 (c .before .before .before .amount .result)) ≡ at (a .cells) (a .x .a)
+    toZ w64 (ofZ w64 (c .before .before .before .amount .result)) ≡ at (a .cells .now) (a .x .a)
 left c =
     let d = c .before .before .before in
     rw (toZ-ofZ (sfits-of (d .amount .ok)), d .amount .ensures, d .before .count .ensures .0)
 
 right : (c : tie.After-struct-told) → let a = c .before .before .before .before .before .args in
-    toZ w64 (ofZ w64 (c .before .amount2 .result)) ≡ at (a .cells) (a .x .b)
+    toZ w64 (ofZ w64 (c .before .amount2 .result)) ≡ at (a .cells .now) (a .x .b)
 right c =
     rw (toZ-ofZ (sfits-of (c .before .amount2 .ok)), c .before .amount2 .ensures, c .before .before .count2 .ensures .0)
 

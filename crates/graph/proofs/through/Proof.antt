@@ -2,7 +2,7 @@
 -- joined with itself it is the same.
 use mathlib.Core.Path.{_≡_, refl, sym, ap, _∙_}
 use mathlib.Core.Logic.{⊎-elim}
-use mathlib.Core.Bool.{true, false, _&&_, _||_, or-false}
+use mathlib.Core.Bool.{Bool, true, false, cond, _&&_, _||_, or-false}
 use mathlib.Core.List.{List}
 use Prim.Native.Nat.{ℕ, _≤_, _-_}
 use native.Mathlib.Nat.{le-refl}
@@ -11,7 +11,7 @@ use lib.Bits.{bitOr}
 use lib.ListN.{length, getD}
 use Rattle.mask.specs.Mask.{has}
 use Rattle.mask.specs.Bits.{has-or, has-zero}
-use Rattle.mask.specs.Loops.{Upto, upto-none, upto-keep, upto-store, upto-all}
+use Rattle.mask.specs.Loops.{Upto, upto-none, upto-store, upto-all}
 use borrow.Author.Needs.{needs}
 use Rattle.graph.proofs.through.Statement.{statement}
 use Rattle.graph.proofs.through.Tie as tie
@@ -23,45 +23,47 @@ New p k row x v = (s : ℕ) → has v s ≡ (has (getD p x 0) s || (has (getD p 
 stay : (p : List ℕ) (k row x v : ℕ) → v ≡ getD p x 0 → has v k ≡ false → New p k row x v
 stay p k row x v e h s = rw (← e, h) (sym (or-false (has v s)))
 
-join : (p : List ℕ) (k row x v : ℕ) → v ≡ getD p x 0 → has v k ≡ true → New p k row x (bitOr v row)
-join p k row x v e h s = rw (← e, h) (has-or v row s)
+join : (p : List ℕ) (k row x v : ℕ) → v ≡ getD p x 0 → (b : Bool) → has v k ≡ b → (more : ℕ) → more ≡ cond b row 0
+    → New p k row x (bitOr v more)
+join p k row x v e true h more m s = rw (← e, h, m) (has-or v row s)
+join p k row x v e false h more m s = rw (← e, h, m) (has-or v 0 s ∙ ap (λ (b : Bool). has v s || b) (has-zero s))
 
 abbrev Inv-loop : tie.InvT-loop
-Inv-loop k row q₀ r₀ q r = (r ≤ 32) × (length q₀ ≡ 32) × Upto (New q₀ k row) q₀ r q
+Inv-loop q₀ k row r₀ q r = (r ≤ 32) × (length q₀ ≡ 32) × Upto (New q₀ k row) q₀ r q
 
 abbrev μ-loop : tie.MeasureT-loop
-μ-loop k row q₀ r₀ q r = 32 - r
+μ-loop q₀ k row r₀ q r = 32 - r
 
 loop-holds : tie.Need-loop-holds Inv-loop μ-loop
-loop-holds c = (search needs, search needs, upto-none _ _)
+loop-holds c = (search needs, c .before .pre .1, upto-none _ _)
 
 loop-again : tie.Need-loop-again Inv-loop μ-loop
 loop-again c =
-    let p = c .before .before .before .before .args .t1 in
-    let k = c .before .before .before .before .args .k in
-    let at = c .before .before .before .loop in
+    let i = c .before in
+    let at = i .before .before .before .before .loop in
+    let s = i .before .before .before .before .before .before in
+    let p = s .args .q .now in
     let old : getD (at .q) (at .r) 0 ≡ getD p (at .r) 0 = at .inv .2 .rest _ (le-refl _) in
-    ⊎-elim
-    (λ w. (
+    let go = join p (s .args .k) (getD p (s .args .k) 0) (at .r) _ old in (
       omega arith,
-      search needs,
-      rw (w .1) (upto-store _ _ _ _ _ (omega arith) (at .inv .2)
-          (join p k (getD p k 0) (at .r) _ old (sym (c .before .has .ensures) ∙ w .0 .taken))),
-    ))
-    (λ w. (
-      omega arith,
-      search needs,
-      rw (w .1) (upto-keep _ _ _ _ (at .inv .2)
-          (stay p k (getD p k 0) (at .r) _ old (sym (c .before .has .ensures) ∙ w .0 .left))),
-    ))
-    (c .if1 .came)
+      at .inv .1,
+      upto-store _ _ _ _ _ (omega arith) (at .inv .2)
+          (⊎-elim
+          (λ w. go true (sym (i .before .has .ensures) ∙ w .0 .taken) _ (w .1))
+          (λ w. go false (sym (i .before .has .ensures) ∙ w .0 .left) _ (w .1))
+          (i .if1 .came)),
+    )
 
 returns : tie.Need-returns Inv-loop μ-loop
 returns c =
-    let p = c .before .before .args .t1 in
-    let k = c .before .before .args .k in
-    upto-all _ _ _ _ (c .before .loop .inv .2) (omega arith)
-    (λ x l z. stay p k (getD p k 0) x (getD p x 0) refl (ap (λ (v : ℕ). has v k) z ∙ has-zero k))
+    let p = c .before .before .before .args .q .now in
+    let k = c .before .before .before .args .k in
+    record {
+      size = c .before .loop .inv .2 .len;
+      masks =
+          upto-all _ _ _ _ (c .before .loop .inv .2) (omega arith)
+          (λ x l z. stay p k (getD p k 0) x (getD p x 0) refl (ap (λ (v : ℕ). has v k) z ∙ has-zero k));
+    }
 
 pub through-spec : {M : Type 1} → statement M
 through-spec =

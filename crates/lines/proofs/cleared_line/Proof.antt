@@ -9,11 +9,11 @@ use Rattle.lines.proofs.cleared_line.Tie as tie
 
 returns : tie.Need-returns
 unfolding clearedLine
-returns c = added-as (c .word .ensures) (sym (ap clearedLine (c .before .before .if1 .taken))) (omega arith)
+returns c = added-as (c .word .ensures) (sym (ap clearedLine (c .before .before .before .if1 .taken))) (omega arith)
 
 returns-2 : tie.Need-returns-2
 unfolding clearedLine
-returns-2 c = added-as (c .word2 .ensures) (sym (ap clearedLine (c .before .before .if1 .left))) (omega arith)
+returns-2 c = added-as (c .word2 .ensures) (sym (ap clearedLine (c .before .before .before .if1 .left))) (omega arith)
 
 pub cleared-line-spec : {M : Type 1} → statement M
 cleared-line-spec =

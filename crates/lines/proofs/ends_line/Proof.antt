@@ -11,15 +11,17 @@ use Rattle.lines.proofs.ends_line.Tie as tie
 returns : tie.Need-returns
 unfolding endsLine
 returns c =
-    added-as (added-on (added-on (c .before .before .word .ensures) (c .before .number .ensures)) (c .push .ensures))
-    (rw (eq-eqb _ 0 (c .before .before .before .before .if1 .taken)) refl)
+    let n = c .before .before in
+    added-as (added-on (added-on (n .before .before .word .ensures) (n .number .ensures)) (c .push .ensures))
+    (rw (eq-eqb _ 0 (n .before .before .before .before .before .if1 .taken)) refl)
     (omega arith)
 
 returns-2 : tie.Need-returns-2
 unfolding endsLine
 returns-2 c =
-    added-as (added-on (added-on (c .before .before .word2 .ensures) (c .before .members .ensures)) (c .push2 .ensures))
-    (rw (ne-eqb _ 0 (c .before .before .before .before .if1 .left)) refl)
+    let m = c .before .before in
+    added-as (added-on (added-on (m .before .before .word2 .ensures) (m .members .ensures)) (c .push2 .ensures))
+    (rw (ne-eqb _ 0 (m .before .before .before .before .before .if1 .left)) refl)
     (omega arith)
 
 pub ends-line-spec : {M : Type 1} → statement M

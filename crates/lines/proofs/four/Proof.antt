@@ -1,37 +1,39 @@
--- The lines one after another; the mask of the numbers below n is the set of all rules.
-use mathlib.Core.Path.{_≡_, ap, _∙_, subst}
-use Prim.Native.Nat.{ℕ, _-_, _^_}
+-- The lines one after another.
+use Prim.Native.Nat.{_+_, _*_, _≤_}
 use native.Mathlib.Omega.{arith}
-use lib.Dec.{ltb}
-use Rattle.analysis.specs.Says.{BoundSays}
-use Rattle.lines.specs.Text.{fourLines}
+use lib.ListN.{length}
+use Rattle.judging.specs.Summary.{reportIn}
+use Rattle.book_read.specs.Read.{nOf, tableIn}
+use Rattle.lines.specs.Text.{fourLines, pairsLine}
 use Rattle.lines.specs.Added.{added-on, added-first}
-use Rattle.lines.specs.LinesLaws.{all-rules}
+use Rattle.lines.specs.BodyLaws.{in-book}
 use borrow.Author.Needs.{needs}
 use Rattle.lines.proofs.four.Statement.{statement}
 use Rattle.lines.proofs.four.Tie as tie
 
+-- a book that was read has its head
+head : (c : tie.Start) → 4 + 4 * nOf (c .args .book .now) ≤ length (c .args .book .now)
+head c = in-book (c .args .book .now) (c .pre) .inside .contents
+
 returns : tie.Need-returns
-unfolding fourLines
+unfolding fourLines pairsLine tableIn
 returns c =
-    let p = c .before in
-    let e = p .before in
-    let n = e .before in
-    let b = n .before .before .before in
-    let t = b .before .before .before .before .args .t in
-    let set = b .before .below .result in
-    let whole : set ≡ 2 ^ (t .n) - 1 = all-rules (t .n) set (b .before .before .before .before .pre) (omega (arith, b .before .below .ok))
-    (λ k. b .before .below .ensures k ∙ ap (ltb k) (b .before .before .count .ensures .0)) in
+    let p = c .before .before in
+    let e = p .before .before in
+    let n = e .before .before in
+    let j = n .before .before .before .before .before .before in
+    let f = j .judged .ensures in
+    let four = added-on (added-on (added-on (n .numbered .ensures) (e .ends-line .ensures)) (p .pairs-line .ensures)) (c .cleared-line .ensures) in
     record {
       lines = record {
-        report = b .before .before .before .report .result;
-        says = b .before .before .before .report .ensures;
-        bound = b .bound .result;
-        bounds = subst (λ (m : ℕ). BoundSays t m (b .bound .result)) whole (b .bound .ensures);
-        is = added-first (n .before .before .empty .ensures)
-            (added-on (added-on (added-on (n .numbered .ensures) (e .ends-line .ensures)) (p .pairs-line .ensures)) (c .cleared-line .ensures));
+        report = reportIn (j .judged .result .summary) (f .marks);
+        says = f .says;
+        bound = f .bound;
+        bounds = f .bounds;
+        is = rw (← f .is) (added-first four);
       };
-      room = search needs;
+      size = search needs;
+      most = search needs;
     }
 
 pub four-spec : {M : Type 1} → statement M
@@ -39,11 +41,9 @@ four-spec =
     tie.close
     (tie.spec
     (λ c κs. search needs)
-    (λ c κs. search needs)
-    (λ c κs. search needs)
-    (λ c κs. search needs)
-    (λ c κs. search needs)
     (λ c. search needs)
+    (λ c. omega (arith, head (c .before .before .before .before .before .before)))
+    (λ c. omega (arith, head (c .before .before .before .before .before .before .before)))
     (λ c κs. search needs)
     (λ c κs. search needs)
     (λ c κs. search needs)

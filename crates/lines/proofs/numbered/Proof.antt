@@ -10,7 +10,7 @@ use Rattle.lines.proofs.numbered.Tie as tie
 returns : tie.Need-returns
 unfolding numbered
 returns c =
-    added-as (added-on (added-on (c .before .before .word .ensures) (c .before .two-numbers .ensures)) (c .push .ensures)) refl
+    added-as (added-on (added-on (c .before .before .before .before .word .ensures) (c .before .before .two-numbers .ensures)) (c .push .ensures)) refl
     (omega arith)
 
 pub numbered-spec : {M : Type 1} → statement M

@@ -11,21 +11,24 @@ use Rattle.lines.proofs.pairs_line.Tie as tie
 returns : tie.Need-returns
 unfolding pairsLine
 returns c =
-    let b = c .before .before .before in
-    added-as (added-on (added-on (b .before .before .word .ensures) (b .number .ensures)) (c .push .ensures))
-    (rw (b .before .wider .ensures, eq-eqb _ 0 (c .before .if1 .taken)) refl)
+    let i = c .before .before in
+    let b = i .before .before in
+    added-as (added-on (added-on (b .before .before .before .word .ensures) (b .number .ensures)) (c .push .ensures))
+    (rw (b .before .wider .ensures, eq-eqb _ 0 (i .if1 .taken)) refl)
     (omega arith)
 
 returns-2 : tie.Need-returns-2
 unfolding pairsLine
 returns-2 c =
-    let b = c .before .before .before .before .before in
+    let p = c .before .before in
+    let i = p .before .before .before .before in
+    let b = i .before .before in
     added-as
     (added-on
-    (added-on (added-on (added-on (b .before .before .word .ensures) (b .number .ensures)) (c .before .before .two-numbers .ensures))
-    (c .before .two-numbers2 .ensures))
+    (added-on (added-on (added-on (b .before .before .before .word .ensures) (b .number .ensures)) (p .before .before .two-numbers .ensures))
+    (p .two-numbers2 .ensures))
     (c .push2 .ensures))
-    (rw (b .before .wider .ensures, ne-eqb _ 0 (c .before .before .before .if1 .left)) refl)
+    (rw (b .before .wider .ensures, ne-eqb _ 0 (i .if1 .left)) refl)
     (omega arith)
 
 pub pairs-line-spec : {M : Type 1} → statement M

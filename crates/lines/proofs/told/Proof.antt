@@ -1,34 +1,50 @@
 -- The refused line, or the four.
-use Rattle.lines.specs.Added.{added-first}
+use mathlib.Core.Path.{_≡_, sym, ap, _∙_, subst}
+use Rattle.table.specs.declared.Answer.{Answer}
+use Rattle.book_read.specs.Read.{Reading, readOf}
+use Rattle.book_read.specs.ReadLaws.{read-done}
+use Rattle.lines.specs.Text.{refusedLine}
+use Rattle.lines.specs.Added.{said, added-first}
+use Rattle.lines.specs.Lines.{FourLines}
 use borrow.Author.Needs.{needs}
 use Rattle.lines.proofs.told.Statement.{statement}
 use Rattle.lines.proofs.told.Tie as tie
 
 returns : tie.Need-returns
 returns c =
-    let start = c .before .before in
+    let i = c .before .before .before in
+    let p = i .before .before .before .pre in
     record {
       text = record {
-        refused = λ _. added-first (start .empty .ensures) (c .numbered .ensures);
-        done = λ e. absurd (start .before .if1 .taken e);
+        refused = λ _. added-first (c .numbered .ensures) ∙ ap (λ (a : Answer). refusedLine (a .number) (a .place)) p;
+        done = λ e. absurd (i .if1 .taken (ap (λ (a : Answer). a .number) p ∙ e));
       };
-      room = search needs;
+      size = search needs;
+      most = search needs;
     }
 
+-- past the test the book was read
+read : (c : tie.Else1) → readOf (c .before .before .before .args .book .now) .number ≡ 0
+read c = sym (ap (λ (a : Answer). a .number) (c .before .before .before .pre)) ∙ c .if1 .left
+
 four-requires : tie.Need-four-requires
-four-requires c κs = c .before .before .before .pre (c .before .if1 .left)
+four-requires c κs = read (c .before)
 
 returns-2 : tie.Need-returns-2
 returns-2 c =
+    let i = c .before .before in
+    let z = read i in
     record {
       text = record {
-        refused = λ ne. absurd (ne (c .before .before .if1 .left));
-        done = λ _. c .four .ensures .lines;
+        refused = λ ne. absurd (ne z);
+        done = λ _.
+            subst (λ (r : Reading). FourLines (r .table) (said (c .four .last .1 .0) (c .four .result))) (sym (read-done (i .before .before .before .args .book .now) z .reading)) (c .four .ensures .lines);
       };
-      room = c .four .ensures .room;
+      size = c .four .ensures .size;
+      most = c .four .ensures .most;
     }
 
 pub told-spec : {M : Type 1} → statement M
 told-spec =
     tie.close
-    (tie.spec (λ c κs. search needs) (λ c. search needs) (λ c κs. search needs) returns four-requires returns-2)
+    (tie.spec (λ c. search needs) (λ c κs. search needs) returns four-requires returns-2)

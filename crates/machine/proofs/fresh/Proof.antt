@@ -1,58 +1,77 @@
 -- The table's answer, 11, or the state; the state of zeros where refused.
 use mathlib.Core.Path.{_≡_, sym, ap, _∙_}
 use mathlib.Core.Bool.{Bool, true, false, cond}
+use mathlib.Core.List.{List}
 use Prim.Native.Nat.{ℕ}
 use native.Mathlib.Omega.{arith}
+use lib.IntN.{ℤ}
 use borrow.Author.Needs.{needs}
-use Rattle.book.specs.Check.{Sound}
-use Rattle.book.specs.Sound.{parts}
+use Rattle.table.specs.Check.{Sound}
+use Rattle.table.specs.Memory.{tableFrom}
 use Rattle.steps.specs.declared.State.{State}
-use Rattle.steps.specs.State.{still, zeros, stateBad}
+use Rattle.steps.specs.State.{still, zeros}
 use Rattle.steps.specs.Step.{moved, answered, freshNumber, freshOf}
 use Rattle.steps.specs.StepLaws.{checked-sound, checked-refused, answered-own, answered-is}
+use Rattle.machine_step.specs.TurnLaws.{bad-by, few-at}
 use Rattle.machine.proofs.fresh.Statement.{statement}
 use Rattle.machine.proofs.fresh.Tie as tie
 
 returns : tie.Need-returns
 unfolding freshOf
 returns c =
-    let a = c .before .before .before .before .args in
-    checked-refused (a .t) _ _ (c .before .before .checked .ensures) (c .if1 .taken) (freshNumber (a .t) (a .cells))
-    (still (a .cells))
-    ∙ ap (λ (s : State). answered (a .t) (freshNumber (a .t) (a .cells)) s (still (a .cells)))
-    (c .before .before .before .still .ensures)
+    let k = c .before .before .before in
+    let a = k .before .before .args in
+    let t = tableFrom (a .table .now) in
+    c .answer .ensures
+    ∙ checked-refused t (k .check .result) (k .check .ensures) (c .before .if1 .taken) (freshNumber t (a .t2))
+    (k .before .still .result) (still (a .t2))
+    ∙ ap (λ (s : State). answered t (freshNumber t (a .t2)) s (still (a .t2))) (k .before .still .ensures)
 
 -- past the first test
-sound-here : (c : tie.Else1) → Sound (c .before .before .before .before .args .t)
-sound-here c = checked-sound _ _ _ (c .before .before .checked .ensures) (c .if1 .left)
+module _ (c : tie.Else1) where
+  abbrev image : List ℕ
+  image = c .before .before .before .before .args .table .now
+
+  abbrev amounts : List ℤ
+  amounts = c .before .before .before .before .args .t2
+
+  sound-here : Sound (tableFrom image)
+  sound-here = checked-sound (tableFrom image) (c .before .before .check .result) (c .before .before .check .ensures) (c .if1 .left)
 
 state-bad-requires : tie.Need-state-bad-requires
-state-bad-requires c κs = parts _ (sound-here (c .before)) .sizes .rules
+state-bad-requires c κs =
+    let d = c .before .before .before in
+    few-at (image d) (sound-here d)
 
 -- the second test, and the number that it gives
 number : (c : tie.After-state-bad) (b : Bool) → c .state-bad .result ≡ b →
-    let a = c .before .before .before .before .before .before .args in freshNumber (a .t) (a .cells) ≡ cond b 11 0
+    let d = c .before .before .before .before in freshNumber (tableFrom (image d)) (amounts d) ≡ cond b 11 0
 number c b e =
-    let t = c .before .before .before .before .before .before .args .t in
-    ap (λ (x : Bool). cond x 11 0) (sym (c .state-bad .ensures ∙ ap (stateBad t) (c .before .still2 .ensures)) ∙ e)
+    let d = c .before .before .before .before in
+    ap (λ (x : Bool). cond x 11 0) (sym (c .state-bad .ensures ∙ bad-by (image d) (still (amounts d))) ∙ e)
 
 returns-2 : tie.Need-returns-2
 unfolding freshOf
 returns-2 c =
-    let a = c .before .before .before .before .before .before .before .before .args in
-    let e = number (c .before .before) true (c .before .if2 .taken) in
-    rw (c .answer .ensures, c .before .before .before .before .before .before .before .still .ensures)
-    (ap (λ (n : ℕ). moved n 255 zeros) (sym e)
-    ∙ sym (answered-own (a .t) (freshNumber (a .t) (a .cells)) zeros (still (a .cells))
-    (sound-here (c .before .before .before .before)) (λ z. absurd (omega (arith, e)))))
+    let b = c .before .before in
+    let d = b .before .before .before .before in
+    let t = tableFrom (image d) in
+    let e = number b true (c .before .if2 .taken) in
+    c .answer2 .ensures
+    ∙ ap (moved 11 255) (d .before .before .before .still .ensures)
+    ∙ ap (λ (n : ℕ). moved n 255 zeros) (sym e)
+    ∙ sym (answered-own t (freshNumber t (amounts d)) zeros (still (amounts d)) (sound-here d) (λ z. absurd (omega (arith, e))))
 
 returns-3 : tie.Need-returns-3
 unfolding freshOf
 returns-3 c =
-    let a = c .before .before .before .before .before .before .before .before .args in
-    rw (c .answer2 .ensures, c .before .before .before .still2 .ensures)
-    (sym (answered-is (a .t) (freshNumber (a .t) (a .cells)) zeros (still (a .cells))
-    (sound-here (c .before .before .before .before)) (number (c .before .before) false (c .before .if2 .left))))
+    let b = c .before .before .before in
+    let d = b .before .before .before .before in
+    let t = tableFrom (image d) in
+    c .answer3 .ensures
+    ∙ ap (moved 0 255) (c .before .still2 .ensures)
+    ∙ sym (answered-is t (freshNumber t (amounts d)) zeros (still (amounts d)) (sound-here d)
+    (number b false (c .before .before .if2 .left)))
 
 pub fresh-spec : {M : Type 1} → statement M
 fresh-spec =
@@ -60,10 +79,13 @@ fresh-spec =
     (tie.spec
     (λ c κs. search needs)
     (λ c κs. search needs)
-    returns
     (λ c κs. search needs)
+    returns
+    (λ c. search needs)
+    (λ c. search needs)
     state-bad-requires
     (λ c κs. search needs)
     returns-2
+    (λ c κs. search needs)
     (λ c κs. search needs)
     returns-3)

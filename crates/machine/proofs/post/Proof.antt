@@ -1,94 +1,138 @@
 -- The table's answer, the posting's own number, or the posting: the cell is one of the table's where it is reached.
-use mathlib.Core.Path.{_≡_, sym, ap, _∙_}
-use Prim.Native.Nat.{_<_}
+use mathlib.Core.Path.{_≡_, sym, ap, ap₂, _∙_}
+use mathlib.Core.List.{List}
+use Prim.Native.Nat.{ℕ, _<_}
 use native.Mathlib.Omega.{arith}
-use lib.ListN.{set}
+use lib.IntN.{ℤ}
+use lib.ListN.{length, set}
 use mir.Facts.{toZ-ofZ}
 use borrow.Author.Needs.{needs}
-use Rattle.book.specs.Check.{Sound}
-use Rattle.book.specs.Sound.{parts}
-use Rattle.steps.specs.Step.{renewed, postNumber, postOf}
+use Rattle.table.specs.Check.{Sound}
+use Rattle.table.specs.Sound.{parts}
+use Rattle.table.specs.Memory.{tableFrom}
+use Rattle.amounts.specs.SlotLaws.{put-one}
+use Rattle.steps.specs.declared.State.{State}
+use Rattle.steps.specs.Step.{moved, renewed, postNumber, postOf}
 use Rattle.steps.specs.StepLaws.{checked-sound, checked-refused, answered-own, answered-is}
 use Rattle.steps.specs.PostLaws.{posting}
+use Rattle.machine_step.specs.Turn.{renewedBy}
+use Rattle.machine_step.specs.TurnLaws.{few-at, sizes-at, renewed-is, renewed-by}
 use Rattle.machine.proofs.post.Statement.{statement}
 use Rattle.machine.proofs.post.Tie as tie
 
 returns : tie.Need-returns
 unfolding postOf
 returns c =
-    let a = c .before .before .before .args in
-    checked-refused (a .t) (a .s) _ (c .before .before .checked .ensures) (c .if1 .taken)
-    (postNumber (a .t) (a .s) (a .cell) (a .value))
-    (renewed (a .t) (a .s) (set (a .s .cells) (a .cell) (a .value)))
+    let k = c .before .before .before in
+    let a = k .before .args in
+    let t = tableFrom (a .table .now) in
+    c .answer .ensures
+    ∙ checked-refused t (k .check .result) (k .check .ensures) (c .before .if1 .taken)
+    (postNumber t (a .s) (a .cell) (a .value)) (a .s) (renewed t (a .s) (set (a .s .cells) (a .cell) (a .value)))
 
 -- past the first test
-sound-here : (c : tie.Else1) → Sound (c .before .before .before .args .t)
-sound-here c = checked-sound _ _ _ (c .before .before .checked .ensures) (c .if1 .left)
+module _ (c : tie.Else1) where
+  abbrev image : List ℕ
+  image = c .before .before .before .args .table .now
+
+  abbrev state : State
+  state = c .before .before .before .args .s
+
+  abbrev cell : ℕ
+  cell = c .before .before .before .args .cell
+
+  abbrev value : ℤ
+  value = c .before .before .before .args .value
+
+  sound-here : Sound (tableFrom image)
+  sound-here = checked-sound (tableFrom image) (c .before .before .check .result) (c .before .before .check .ensures) (c .if1 .left)
 
 post-number-requires : tie.Need-post-number-requires
-post-number-requires c κs = parts _ (sound-here c) .sizes .rules
+post-number-requires c κs =
+    let d = c .before .before .before in
+    sizes-at (image d) (search needs) (sound-here d)
 
 -- the posting's own number
-own : (c : tie.After-post-number) → let a = c .before .before .before .before .args in
-    c .post-number .result ≡ postNumber (a .t) (a .s) (a .cell) (a .value)
+own : (c : tie.After-post-number) → let d = c .before .before .before .before in
+    c .post-number .result ≡ postNumber (tableFrom (image d)) (state d) (cell d) (value d)
 own c =
     let d = c .before .before .before .before in
-    c .post-number .ensures ∙ ap (postNumber (d .args .t) (d .args .s) (d .args .cell)) (toZ-ofZ (d .fits .value))
+    c .post-number .ensures
+    ∙ ap (postNumber (tableFrom (image d)) (state d) (cell d)) (toZ-ofZ (d .before .before .before .fits .value))
 
 returns-2 : tie.Need-returns-2
 unfolding postOf
 returns-2 c =
-    let a = c .before .before .before .before .before .before .args in
-    let d = c .before .before in
-    rw (c .answer .ensures, own d)
-    (sym (answered-own (a .t) (postNumber (a .t) (a .s) (a .cell) (a .value)) (a .s)
-    (renewed (a .t) (a .s) (set (a .s .cells) (a .cell) (a .value))) (sound-here (d .before))
-    (λ z. c .before .if2 .taken (own d ∙ z))))
+    let p = c .before .before in
+    let d = p .before .before .before .before in
+    let t = tableFrom (image d) in
+    c .answer2 .ensures
+    ∙ ap (λ (x : ℕ). moved x 255 (state d)) (own p)
+    ∙ sym (answered-own t (postNumber t (state d) (cell d) (value d)) (state d)
+    (renewed t (state d) (set (state d .cells) (cell d) (value d))) (sound-here d) (λ z. c .before .if2 .taken (own p ∙ z)))
 
 -- past the second
-cell-below : (c : tie.After-cells) → c .before .before .before .before .before .before .args .cell < 32
-cell-below c =
-    let a = c .before .before .before .before .before .before .args in
-    omega (
-      arith,
-      parts (a .t) (sound-here (c .before .before .before)) .sizes .cells,
-      posting (a .t) (a .s) (a .cell) (a .value) (sym (own (c .before .before)) ∙ c .before .if2 .left) .below,
-    )
+module _ (c : tie.Else2) where
+  abbrev early : tie.Else1
+  early = c .before .before .before .before .before
 
-mul-cells : tie.Need-mul-cells
-mul-cells c = omega (arith, cell-below c)
+  zero : postNumber (tableFrom (image early)) (state early) (cell early) (value early) ≡ 0
+  zero = sym (own (c .before)) ∙ c .if2 .left
 
-array-set-from-cells : tie.Need-array-set-from-cells
-array-set-from-cells c = cell-below c
+  long-cells : length (state early .cells) ≡ 32
+  long-cells = search needs
 
-renewed-requires : tie.Need-renewed-requires
-renewed-requires c κs = parts _ (sound-here (c .before .before .before)) .sizes .rules
+  cell-below : cell early < 32
+  cell-below = omega (
+    arith,
+    parts (tableFrom (image early)) (sound-here early) .sizes .cells,
+    posting (tableFrom (image early)) (state early) (cell early) (value early) zero .below,
+  )
+
+watches-requires : tie.Need-watches-requires
+watches-requires c κs =
+    let d = early (c .before .before .before) in
+    let long : length (image d) ≡ 9092 = search needs in
+    (long, c .count .ensures .0, rw (c .count .ensures .0) (few-at (image d) (sound-here d)))
+
+put-requires : tie.Need-put-requires
+put-requires c κs = cell-below (c .before .before .before .before .before)
 
 returns-3 : tie.Need-returns-3
 unfolding postOf
 returns-3 c =
-    let a = c .before .before .before .before .before .before .before .before .args in
-    let d = c .before .before .before .before in
-    rw (
-      c .answer2 .ensures,
-      c .before .renewed .ensures,
-      toZ-ofZ (c .before .before .before .before .before .before .before .before .fits .value),
-    )
-    (sym (answered-is (a .t) (postNumber (a .t) (a .s) (a .cell) (a .value)) (a .s)
-    (renewed (a .t) (a .s) (set (a .s .cells) (a .cell) (a .value))) (sound-here (d .before))
-    (sym (own d) ∙ c .before .before .before .if2 .left)))
+    let w = c .before .before in
+    let p = w .before .before in
+    let v = p .before .before in
+    let e = v .before .before .before .before in
+    let d = early e in
+    let t = tableFrom (image d) in
+    let after = set (state d .cells) (cell d) (value d) in
+    c .answer3 .ensures
+    ∙ ap (moved 0 255)
+    (c .before .joined .ensures
+    ∙ renewed-is (v .watches .result) (state d) (p .put .last .0) (p .put .result) (w .woken .result)
+    (put-one (state d .cells) (p .put .last .0) (cell d) _ (p .put .result) (long-cells e) (omega arith) (p .put .ensures)) (w .woken .ensures)
+    ∙ ap₂ (λ (row : List ℕ) (x : List ℤ). renewedBy row (state d) x) (v .watches .ensures)
+    (p .put .ensures .cells ∙ ap (set (state d .cells) (cell d)) (toZ-ofZ (d .before .before .before .fits .value)))
+    ∙ renewed-by t (parts t (sound-here d) .sizes .rules) (state d) after)
+    ∙ sym (answered-is t (postNumber t (state d) (cell d) (value d)) (state d) (renewed t (state d) after) (sound-here d) (zero e))
 
 pub post-spec : {M : Type 1} → statement M
 post-spec =
     tie.close
     (tie.spec
     (λ c κs. search needs)
+    (λ c κs. search needs)
     returns
     post-number-requires
     (λ c κs. search needs)
     returns-2
-    mul-cells
-    array-set-from-cells
-    renewed-requires
+    (λ c. search needs)
+    (λ c κs. search needs)
+    watches-requires
+    put-requires
+    (λ c κs. search needs)
+    (λ c κs. search needs)
     (λ c κs. search needs)
     returns-3)

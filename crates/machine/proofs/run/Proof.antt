@@ -1,63 +1,94 @@
--- The table's answer, 11, or the run: the table is sound-by and the state fits where it is reached.
-use mathlib.Core.Path.{_≡_, sym, ap, _∙_}
+-- The table's answer, 11, or the run: the table is sound and the state fits where it is reached.
+use mathlib.Core.Path.{_≡_, sym, _∙_}
+use mathlib.Core.List.{List}
+use Prim.Native.Nat.{ℕ, _≤_}
 use lib.ListN.{length}
-use borrow.Author.Tests.{ne-eqb}
 use borrow.Author.Needs.{needs}
-use Rattle.book.specs.declared.Answer.{Answer}
-use Rattle.book.specs.Check.{Sound}
-use Rattle.book.specs.Sound.{parts, sound-by}
-use Rattle.steps.specs.Run.{runOf}
+use Rattle.table.specs.Check.{Sound}
+use Rattle.table.specs.Memory.{tableFrom}
+use Rattle.steps.specs.declared.State.{State}
+use Rattle.steps.specs.State.{Fits, stateBad}
+use Rattle.steps.specs.StepLaws.{checked-sound}
+use Rattle.steps.specs.Run.{ran}
+use Rattle.steps.specs.RunLaws.{run-table, run-11, run-is}
+use Rattle.machine_step.specs.TurnLaws.{bad-by, few-at}
 use Rattle.machine.proofs.run.Statement.{statement}
 use Rattle.machine.proofs.run.Tie as tie
 
 returns : tie.Need-returns
-unfolding runOf
-returns c = rw (← c .before .before .check .ensures, ne-eqb _ 0 (c .if1 .taken))
+returns c =
+    let k = c .before .before in
+    let a = k .before .args in
+    run-table (tableFrom (a .table .now)) (a .s) (a .budget) (k .check .result) (k .check .ensures) (c .if1 .taken)
 
 -- past the first test
-sound-here : (c : tie.Else1) → Sound (c .before .before .before .args .t)
-sound-here c =
-    sound-by (c .before .before .before .args .t)
-    (ap (λ (a : Answer). a .number) (sym (c .before .before .check .ensures)) ∙ c .if1 .left)
+module _ (c : tie.Else1) where
+  abbrev image : List ℕ
+  image = c .before .before .before .args .table .now
+
+  abbrev state : State
+  state = c .before .before .before .args .s
+
+  sound-here : Sound (tableFrom image)
+  sound-here = checked-sound (tableFrom image) (c .before .before .check .result) (c .before .before .check .ensures) (c .if1 .left)
 
 state-bad-requires : tie.Need-state-bad-requires
-state-bad-requires c κs = parts _ (sound-here c) .sizes .rules
+state-bad-requires c κs = let d = c .before .before .before .before in few-at (image d) (sound-here d)
+
+-- the test of 11 is the table's
+fit : (c : tie.After-state-bad) → let d = c .before .before .before .before .before in
+    c .state-bad .result ≡ stateBad (tableFrom (image d)) (state d)
+fit c = let d = c .before .before .before .before .before in c .state-bad .ensures ∙ bad-by (image d) (state d)
 
 returns-2 : tie.Need-returns-2
-unfolding runOf
-returns-2 c = rw (
-  ← c .before .before .before .before .before .check .ensures,
-  c .before .before .before .if1 .left,
-  ← c .before .before .state-bad .ensures,
-  c .before .if2 .taken,
-  c .ran .ensures,
-)
+returns-2 c =
+    let b = c .before .before in
+    let d = b .before .before .before .before .before in
+    let a = d .before .before .before .args in
+    c .ran .ensures
+    ∙ sym (run-11 (tableFrom (image d)) (state d) (a .budget) (sound-here d) (sym (fit b) ∙ c .before .if2 .taken))
+
+-- past the second
+module _ (c : tie.Else2) where
+  abbrev early : tie.Else1
+  early = c .before .before .before .before .before .before
+
+  fits : Fits (tableFrom (image early)) (state early)
+  fits =
+      let l : length (state early .cells) ≡ 32 = search needs in
+      record { long = l; waiting = search needs; faults = search needs; good = sym (fit (c .before)) ∙ c .if2 .left }
+
+module _ (c : tie.After-count) where
+  few : c .count .result ≤ 32
+  few = let d = early (c .before .before) in rw (c .count .ensures .0) (few-at (image d) (sound-here d))
+
+watches-requires : tie.Need-watches-requires
+watches-requires c κs = (search needs, c .before .count .ensures .0, few (c .before))
 
 goes-before-requires : tie.Need-goes-before-requires
-goes-before-requires c κs = parts _ (sound-here (c .before .before)) .sizes .rules
+goes-before-requires c κs =
+    let k = c .before .before .before in (search needs, k .count .ensures .0, few k)
 
 runs-requires : tie.Need-runs-requires
 runs-requires c κs =
-    let l : length (c .before .before .before .before .before .before .args .s .cells) ≡ 32 = search needs in (
-      sound-here (c .before .before .before),
+    let g = c .before .before .before in
+    let w = g .before .before in
+    let e = w .before .before .before .before in (
       record {
-        long = l;
-        waiting = search needs;
-        faults = search needs;
-        good = sym (c .before .before .state-bad .ensures) ∙ c .before .if2 .left;
+        long = search needs;
+        sound = sound-here (early e);
+        watches = w .watches .ensures;
+        before = g .goes-before .ensures;
       },
-      c .goes-before .ensures,
+      fits e,
     )
 
 returns-3 : tie.Need-returns-3
-unfolding runOf
-returns-3 c = rw (
-  ← c .before .before .before .before .before .before .check .ensures,
-  c .before .before .before .before .if1 .left,
-  ← c .before .before .before .state-bad .ensures,
-  c .before .before .if2 .left,
-  c .runs .ensures,
-)
+returns-3 c =
+    let e = c .before .before .before .before .before .before .before .before .before .before in
+    let d = early e in
+    c .runs .ensures
+    ∙ sym (run-is (tableFrom (image d)) (state d) (d .before .before .before .args .budget) (sound-here d) (fits e))
 
 pub run-spec : {M : Type 1} → statement M
 run-spec =
@@ -65,9 +96,14 @@ run-spec =
     (tie.spec
     (λ c κs. search needs)
     returns
+    (λ c. search needs)
+    (λ c. search needs)
     state-bad-requires
     (λ c κs. search needs)
     returns-2
+    (λ c. search needs)
+    (λ c κs. search needs)
+    watches-requires
     goes-before-requires
     runs-requires
     returns-3)

@@ -4,7 +4,6 @@ use mathlib.Core.Path.{_≡_, subst}
 use mathlib.Core.Bool.{true}
 use Prim.Native.Nat.{ℕ, _<_, _^_}
 use native.Mathlib.Omega.{arith}
-use lib.ListN.{length}
 use Rattle.mask.specs.Mask.{has, lowest}
 use Rattle.mask.specs.MaskLaws.{lowest-has, fewer}
 use Rattle.mask.specs.Loops.{Gathering, gathering-start, gathering-turn, gathering-end}
@@ -13,13 +12,13 @@ use Rattle.mask.proofs.gather.Statement.{statement}
 use Rattle.mask.proofs.gather.Tie as tie
 
 abbrev Inv-loop : tie.InvT-loop
-Inv-loop m rows left₀ a₀ left a = (left < 2 ^ 32) × (length rows ≡ 32) × Gathering rows m left a
+Inv-loop rows m left₀ a₀ left a = (left < 2 ^ 32) × Gathering rows m left a
 
 abbrev μ-loop : tie.MeasureT-loop
-μ-loop m rows left₀ a₀ left a = left
+μ-loop rows m left₀ a₀ left a = left
 
 loop-holds : tie.Need-loop-holds Inv-loop μ-loop
-loop-holds c = (search needs, search needs, gathering-start (c .args .t1) _)
+loop-holds c = (search needs, gathering-start (c .args .rows .now) _)
 
 -- the lowest member is one
 low : (c : tie.After-lowest Inv-loop μ-loop)
@@ -30,29 +29,28 @@ low c =
 mul-a : tie.Need-mul-a Inv-loop μ-loop
 mul-a c = omega (arith, low c .0)
 
-array-read-a : tie.Need-array-read-a Inv-loop μ-loop
-array-read-a c = low c .0
+element-copy-out-a : tie.Need-element-copy-out-a Inv-loop μ-loop
+element-copy-out-a c = low c .0
 
 without-requires : tie.Need-without-requires Inv-loop μ-loop
-without-requires c κs = low c .0
+without-requires c κs = low (c .before) .0
 
 loop-less : tie.Need-loop-less Inv-loop μ-loop
 loop-less c =
-    fewer _ _ _ (c .before .before .before .loop .inv .0) (search needs) (low (c .before) .1) (c .without .ensures)
+    fewer _ _ _ (c .before .before .before .before .loop .inv .0) (search needs) (low (c .before .before) .1) (c .without .ensures)
 
 loop-again : tie.Need-loop-again Inv-loop μ-loop
 loop-again c = (
   search needs,
-  search needs,
-  gathering-turn (c .before .before .before .before .args .t1) _ _ _ _ _ (low (c .before) .0) (low (c .before) .1)
-      (c .without .ensures) (c .before .before .before .loop .inv .2),
+  gathering-turn (c .before .before .before .before .before .args .rows .now) _ _ _ _ _ (low (c .before .before) .0)
+      (low (c .before .before) .1) (c .without .ensures) (c .before .before .before .before .loop .inv .1),
 )
 
 returns : tie.Need-returns Inv-loop μ-loop
 returns c =
-    gathering-end (c .before .before .args .t1) _ _
-    (subst (λ (k : ℕ). Gathering (c .before .before .args .t1) (c .before .before .args .m) k (c .before .loop .a))
-    (c .loop-test .left) (c .before .loop .inv .2))
+    gathering-end (c .before .before .args .rows .now) _ _
+    (subst (λ (k : ℕ). Gathering (c .before .before .args .rows .now) (c .before .before .args .m) k (c .before .loop .a))
+    (c .loop-test .left) (c .before .loop .inv .1))
 
 pub gather-spec : {M : Type 1} → statement M
 gather-spec =
@@ -63,7 +61,7 @@ gather-spec =
     loop-holds
     (λ c κs. search needs)
     mul-a
-    array-read-a
+    element-copy-out-a
     without-requires
     loop-less
     loop-again

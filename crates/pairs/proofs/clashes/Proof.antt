@@ -1,33 +1,44 @@
--- The masks passed are those of the rules that do not commute with each.
-use mathlib.Core.Path.{_≡_}
-use mathlib.Core.Bool.{not}
-use Prim.Native.Nat.{_≤_, _-_}
+-- The masks passed are those of the rules that do not commute with each; the rest are 0, for rules that are not there.
+use mathlib.Core.Path.{_∙_}
+use mathlib.Core.List.{[]}
+use Prim.Native.Nat.{ℕ, _≤_, _-_}
 use native.Mathlib.Omega.{arith}
-use lib.ListN.{length}
+use lib.ListN.{replicate, length-replicate}
 use Rattle.mask.specs.Loops.{Upto, upto-none, upto-store}
-use Rattle.pairs.specs.Masks.{clashes, commute}
+use Rattle.pairs.specs.Masks.{clashes}
+use Rattle.pairs.specs.Lent.{masksIn}
+use Rattle.pairs.specs.Clashing.{clashing, clash-law}
 use Rattle.pairs.specs.Tables.{Row, rows-by}
 use borrow.Author.Needs.{needs}
 use Rattle.pairs.proofs.clashes.Statement.{statement}
 use Rattle.pairs.proofs.clashes.Tie as tie
 
 abbrev Inv-loop : tie.InvT-loop
-Inv-loop m c₀ r₀ c r = (r ≤ 32) × (length c₀ ≡ 32) × Upto (Row (λ r s. not (commute m r s))) c₀ r c
+Inv-loop watch reads writes n all c₀ r₀ c r = (r ≤ n) × (n ≤ 32) × Upto (Row (clashing all writes)) (replicate 32 0) r c
 
 abbrev μ-loop : tie.MeasureT-loop
-μ-loop m c₀ r₀ c r = 32 - r
+μ-loop watch reads writes n all c₀ r₀ c r = n - r
 
 loop-holds : tie.Need-loop-holds Inv-loop μ-loop
-loop-holds c = (search needs, search needs, upto-none _ _)
+loop-holds c = (search needs, c .before .pre .0, upto-none _ _)
 
 loop-again : tie.Need-loop-again Inv-loop μ-loop
 loop-again c =
-    let inv = c .before .before .loop .inv in
-    (omega arith, inv .1, upto-store _ _ _ _ _ (omega arith) (inv .2) (omega arith, c .clashing .ensures))
+    let inv = c .before .before .before .loop .inv in (
+      omega arith,
+      inv .1,
+      upto-store _ _ _ _ _ (omega (arith, length-replicate {A = ℕ} 32 0)) (inv .2) (omega arith, c .clashing .ensures),
+    )
 
 returns : tie.Need-returns Inv-loop μ-loop
 unfolding clashes
-returns c = rows-by _ _ _ _ (c .before .loop .inv .1) (omega arith) (c .before .loop .inv .2)
+returns c =
+    let t = c .before .before in
+    let s = t .before in
+    let a = s .args in
+    let law = clash-law (masksIn 0 (a .watch .now) (a .reads .now) (a .writes .now) []) _ (t .touched .ensures) in
+    rows-by _ (a .n) (s .pre .1) (Row (clashing (t .touched .result) (a .writes .now)))
+    (λ r v l d. (d .0, λ x k. d .1 x k ∙ law r x l k)) _ _ (c .loop-test .left) (c .before .loop .inv .2)
 
 pub clashes-spec : {M : Type 1} → statement M
 clashes-spec =
@@ -35,6 +46,7 @@ clashes-spec =
     (tie.spec
     Inv-loop
     μ-loop
+    (λ c κs. search needs)
     loop-holds
     (λ c κs. search needs)
     (λ c. search needs)

@@ -1,8 +1,10 @@
 -- What one of a may trigger, cut down to what goes before one of b, joins a.
 use mathlib.Core.Path.{ap, ap₂, _∙_}
 use mathlib.Core.Bool.{Bool, _||_, _&&_}
+use native.Mathlib.Omega.{arith}
 use Rattle.mask.specs.Mask.{has}
 use Rattle.mask.specs.Bits.{has-or, has-and}
+use Rattle.pairs.specs.Turned.{turned-met}
 use Rattle.pairs.specs.Growing.{grows}
 use borrow.Author.Needs.{needs}
 use Rattle.pairs.proofs.grow.Statement.{statement}
@@ -14,8 +16,8 @@ returns c s =
     let a = c .before .before .args .a in
     has-or a _ s
     ∙ ap (λ (x : Bool). has a s || x)
-    (has-and (c .before .gather .result) (c .touching .result) s ∙ ap₂ _&&_ (c .before .gather .ensures s)
-    (c .touching .ensures s))
+    (has-and (c .before .gather .result) (c .gather2 .result) s
+    ∙ ap₂ _&&_ (c .before .gather .ensures s) (turned-met _ _ _ (omega arith) (c .gather2 .ensures) s))
 
 pub grow-spec : {M : Type 1} → statement M
 grow-spec = tie.close (tie.spec (λ c κs. search needs) (λ c κs. search needs) returns)

@@ -6,16 +6,17 @@ use Prim.Native.Nat.{_^_, _-_, _+_}
 use native.Mathlib.Omega.{arith}
 use lib.Dec.{eqb}
 use Rattle.mask.specs.Bits.{has-zero}
+use Rattle.pairs.specs.Turned.{turnedOf}
 use Rattle.pairs.specs.Growing.{Growing, growing-start, growing-turn, growing-le, growing-end}
 use borrow.Author.Needs.{needs}
 use Rattle.pairs.proofs.grown.Statement.{statement}
 use Rattle.pairs.proofs.grown.Tie as tie
 
 abbrev Inv-loop : tie.InvT-loop
-Inv-loop trig before i j a₀ b₀ a b = Growing trig before i j a b
+Inv-loop trig ahead i j a₀ b₀ a b = Growing trig (turnedOf ahead) i j a b
 
 abbrev μ-loop : tie.MeasureT-loop
-μ-loop trig before i j a₀ b₀ a b = 2 ^ 33 - (a + b)
+μ-loop trig ahead i j a₀ b₀ a b = 2 ^ 33 - (a + b)
 
 with-requires : tie.Need-with-requires Inv-loop μ-loop
 with-requires c κs = c .pre .0

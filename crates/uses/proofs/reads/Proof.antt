@@ -1,12 +1,18 @@
 -- What the tests read, and what the right sides read.
 use mathlib.Core.Path.{_≡_, sym, ap₂, _∙_}
 use mathlib.Core.Bool.{_&&_, _||_, and-or-distrib-left}
+use Prim.Native.Nat.{_+_, _*_}
 use lib.Dec.{ltb}
 use Rattle.mask.specs.Search.{some}
 use Rattle.mask.specs.Mask.{has}
 use Rattle.mask.specs.Bits.{has-or}
+use Rattle.rule.specs.declared.Test.{Test}
+use Rattle.rule.specs.declared.Assign.{Assign}
+use Rattle.rule.specs.declared.Rule.{Rule}
+use Rattle.rule.specs.Empty.{noTest, noAssign}
 use Rattle.rule.specs.Uses.{testAt, assignAt, testReads, sideReads, reads}
-use Rattle.uses.proofs.Laws.{out-some}
+use Rattle.parts.specs.Parts.{testIn, assignIn, ruleOf}
+use Rattle.uses.proofs.Laws.{out-filled}
 use borrow.Author.Needs.{needs}
 use Rattle.uses.proofs.reads.Statement.{statement}
 use Rattle.uses.proofs.reads.Tie as tie
@@ -14,18 +20,41 @@ use Rattle.uses.proofs.reads.Tie as tie
 returns : tie.Need-returns
 unfolding reads
 returns c =
-    let d = c .before .before in
-    let r = d .before .before .before .before .args .r in
-    λ x.
-    let tests : has (d .tests-read .result) x ≡ (ltb x 32 && some (r .t) (λ j. testReads (testAt r j) x)) =
-    d .tests-read .ensures x ∙ rw (d .before .count .ensures .0) (out-some (ltb x 32) (r .t) (λ j. testReads (testAt r j) x)) in
-    let sides : has (c .sides-read .result) x ≡ (ltb x 32 && some (r .a) (λ j. sideReads (assignAt r j) x)) =
-    c .sides-read .ensures x ∙ rw (c .before .count2 .ensures .0) (out-some (ltb x 32) (r .a) (λ j. sideReads (assignAt r j) x)) in
-    has-or (d .tests-read .result) (c .sides-read .result) x
-    ∙ ap₂ _||_ tests sides
-    ∙ sym (and-or-distrib-left (ltb x 32) (some (r .t) (λ j. testReads (testAt r j) x)) (some (r .a) (λ j. sideReads (assignAt r j) x)))
+    let d = c .before in
+    let b = d .before .before .before .before .before .before in
+    let s = b .args .s .now in
+    let at = b .args .at in
+    let t = b .args .t in
+    let a = b .args .a in
+    λ x m.
+    let r : Rule = ruleOf s at t a m in
+    let l = ltb x 32 in
+    let tested = some (r .t) (λ j. testReads (testAt r j) x) in
+    let sided = some (r .a) (λ j. sideReads (assignAt r j) x) in
+    let tests : has (d .tests-read .result) x ≡ (l && tested) =
+    d .tests-read .ensures x
+    ∙ rw (d .before .before .before .count .ensures .0)
+    (out-filled l (r .t) noTest (λ j. testIn s (at + 12 + 12 * j)) t (λ (y : Test). testReads y x) (b .pre .1)) in
+    let sides : has (c .sides-read .result) x ≡ (l && sided) =
+    c .sides-read .ensures x
+    ∙ rw (d .before .count2 .ensures .0)
+    (out-filled l (r .a) noAssign (λ j. assignIn s (at + 12 + 12 * t + 20 * j)) a (λ (y : Assign). sideReads y x) (b .pre .2)) in
+    has-or (d .tests-read .result) (c .sides-read .result) x ∙ ap₂ _||_ tests sides ∙ sym (and-or-distrib-left l tested sided)
 
 pub reads-spec : {M : Type 1} → statement M
 reads-spec =
     tie.close
-    (tie.spec (λ c κs. search needs) (λ c κs. search needs) (λ c κs. search needs) (λ c κs. search needs) returns)
+    (tie.spec
+    (λ c. search needs)
+    (λ c. search needs)
+    (λ c κs. search needs)
+    (λ c. search needs)
+    (λ c. search needs)
+    (λ c κs. search needs)
+    (λ c. search needs)
+    (λ c κs. search needs)
+    (λ c. search needs)
+    (λ c. search needs)
+    (λ c. search needs)
+    (λ c κs. search needs)
+    returns)

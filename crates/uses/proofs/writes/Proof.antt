@@ -1,8 +1,13 @@
 -- The targets.
 use mathlib.Core.Path.{_∙_}
+use Prim.Native.Nat.{_+_, _*_}
 use lib.Dec.{eqb, ltb}
-use Rattle.rule.specs.Uses.{assignAt, writes}
-use Rattle.uses.proofs.Laws.{out-some}
+use Rattle.endian.specs.Little.{byteAt}
+use Rattle.rule.specs.declared.Assign.{Assign}
+use Rattle.rule.specs.Empty.{noAssign}
+use Rattle.rule.specs.Uses.{writes}
+use Rattle.parts.specs.Parts.{assignIn}
+use Rattle.uses.proofs.Laws.{out-filled}
 use borrow.Author.Needs.{needs}
 use Rattle.uses.proofs.writes.Statement.{statement}
 use Rattle.uses.proofs.writes.Tie as tie
@@ -10,8 +15,25 @@ use Rattle.uses.proofs.writes.Tie as tie
 returns : tie.Need-returns
 unfolding writes
 returns c =
-    let r = c .before .before .before .args .r in
-    λ x. c .targets .ensures x ∙ rw (c .before .count .ensures .0) (out-some (ltb x 32) (r .a) (λ j. eqb x (assignAt r j .target)))
+    let b = c .before .before .before .before in
+    let s = b .args .s .now in
+    let at = b .args .at in
+    λ x m.
+    c .targets .ensures x
+    ∙ rw (c .before .count .ensures .0)
+    (out-filled (ltb x 32) (byteAt s (at + 9)) noAssign (λ j. assignIn s (at + 12 + 12 * b .args .t + 20 * j)) (b .args .a)
+    (λ (y : Assign). eqb x (y .target))
+    (b .pre .1))
 
 pub writes-spec : {M : Type 1} → statement M
-writes-spec = tie.close (tie.spec (λ c κs. search needs) (λ c κs. search needs) returns)
+writes-spec =
+    tie.close
+    (tie.spec
+    (λ c. search needs)
+    (λ c. search needs)
+    (λ c. search needs)
+    (λ c. search needs)
+    (λ c. search needs)
+    (λ c κs. search needs)
+    (λ c κs. search needs)
+    returns)

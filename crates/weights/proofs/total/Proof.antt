@@ -6,7 +6,6 @@ use mathlib.Core.List.{List}
 use Prim.Native.Nat.{ℕ, _^_, _-_, _+_, _≤_, _<_}
 use native.Mathlib.Nat.{add-zero, le-antisymm}
 use native.Mathlib.Omega.{arith}
-use lib.ListN.{length}
 use Rattle.mask.specs.Mask.{has}
 use Rattle.weights.specs.Weight.{total, whole, at}
 use Rattle.weights.specs.Sums.{total-le, total-more, whole-at}
@@ -22,46 +21,45 @@ turn m w x t b h q =
     ∙ sym (total-more x m (at w) ∙ ap (λ (c : Bool). total x m (at w) + cond c (at w x) 0) h)
 
 abbrev Inv-loop : tie.InvT-loop
-Inv-loop m w t₀ x₀ t x = (x ≤ 32) × (length w ≡ 32) × (t ≡ total x m (at w)) × (whole 32 (at w) < 2 ^ 32)
+Inv-loop w m t₀ x₀ t x = (x ≤ 32) × (t ≡ total x m (at w)) × (whole 32 (at w) < 2 ^ 32)
 
 abbrev μ-loop : tie.MeasureT-loop
-μ-loop m w t₀ x₀ t x = 32 - x
+μ-loop w m t₀ x₀ t x = 32 - x
 
 loop-holds : tie.Need-loop-holds Inv-loop μ-loop
 unfolding total
-loop-holds c = (search needs, search needs, refl, c .pre)
+loop-holds c = (search needs, refl, c .pre)
 
 add-t : tie.Need-add-t Inv-loop μ-loop
 add-t c =
-    let at-loop = c .before .before .before .loop in
-    let w = c .before .before .before .before .args .t1 in
+    let at-loop = c .before .before .before .before .loop in
+    let s = c .before .before .before .before .before .args in
     omega (
       arith,
       at-loop .inv,
-      total-le (at-loop .x) (c .before .before .before .before .args .m) (at w),
-      whole-at 32 (at w) (at-loop .x) (c .before .before .loop-test .taken),
+      total-le (at-loop .x) (s .m) (at (s .w .now)),
+      whole-at 32 (at (s .w .now)) (at-loop .x) (c .before .before .before .loop-test .taken),
     )
 
 loop-again : tie.Need-loop-again Inv-loop μ-loop
 loop-again c =
     let inv = c .before .before .before .loop .inv in
-    let go = turn (c .before .before .before .before .args .m) (c .before .before .before .before .args .t1) _ _ in
+    let s = c .before .before .before .before .args in
+    let go = turn (s .m) (s .w .now) _ _ in
     ⊎-elim
-    (λ w. (omega arith, inv .1, w .1 ∙ go true (sym (c .before .has .ensures) ∙ w .0 .taken) (inv .2), inv .3))
+    (λ w. (omega arith, w .2 ∙ go true (sym (c .before .has .ensures) ∙ w .0 .taken) (inv .1), inv .2))
     (λ w. (
       omega arith,
-      inv .1,
-      w .1 ∙ sym (add-zero _) ∙ go false (sym (c .before .has .ensures) ∙ w .0 .left)
-          (inv .2),
-      inv .3,
+      w .1 ∙ sym (add-zero _) ∙ go false (sym (c .before .has .ensures) ∙ w .0 .left) (inv .1),
+      inv .2,
     ))
     (c .if1 .came)
 
 returns : tie.Need-returns Inv-loop μ-loop
 returns c =
-    c .before .loop .inv .2
-    ∙ ap (λ (k : ℕ). total k (c .before .before .args .m) (at (c .before .before .args .t1)))
-    (le-antisymm (c .before .loop .inv .0) (c .loop-test .left))
+    let s = c .before .before .args in
+    c .before .loop .inv .1
+    ∙ ap (λ (k : ℕ). total k (s .m) (at (s .w .now))) (le-antisymm (c .before .loop .inv .0) (c .loop-test .left))
 
 pub total-spec : {M : Type 1} → statement M
 total-spec =

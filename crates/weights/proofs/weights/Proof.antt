@@ -15,20 +15,23 @@ below-requires c κs = c .pre .0
 
 weigh-requires : tie.Need-weigh-requires
 weigh-requires c κs =
+    let b = c .before in
     record {
-      rows = λ r. le-trans (c .before .pre .1 r) (pow-mono (c .before .pre .0));
-      room = room-start (c .below .result);
+      size = search needs;
+      rows = λ r. le-trans (b .before .pre .1 r) (pow-mono (b .before .pre .0));
+      room = room-start (b .below .result);
       halted = λ r s e out.
-          absurd (false≢true (sym out ∙ c .below .ensures s ∙ lt-ltb s _ (has-lt _ s (c .before .pre .1 r) e)));
+          absurd (false≢true (sym out ∙ b .below .ensures s ∙ lt-ltb s _ (has-lt _ s (b .before .pre .1 r) e)));
     }
 
 returns : tie.Need-returns
 returns c =
+    let below = c .before .before .below .ensures in
     record {
-      size = search needs;
-      weight = λ r l h. c .weigh .ensures .weight r (c .before .below .ensures r ∙ lt-ltb r _ l) h;
+      size = c .weigh .ensures .size;
+      weight = λ r l h. c .weigh .ensures .weight r (below r ∙ lt-ltb r _ l) h;
       endless = λ r h. c .weigh .ensures .endless r h ∙ zeros-at 32 r;
-      absent = λ r l. c .weigh .ensures .same r (c .before .below .ensures r ∙ le-ltb r _ l) ∙ zeros-at 32 r;
+      absent = λ r l. c .weigh .ensures .same r (below r ∙ le-ltb r _ l) ∙ zeros-at 32 r;
       fits = c .weigh .ensures .fits;
     }
 

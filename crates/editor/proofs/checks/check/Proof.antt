@@ -1,9 +1,13 @@
 -- Each test passed or taken is the definition's own.
-use mathlib.Core.Path.{_≡_, sym, _∙_}
+use mathlib.Core.Path.{_≡_, sym, ap, _∙_}
+use mathlib.Core.Bool.{false}
+use Prim.Native.Nat.{ℕ}
 use native.Mathlib.Omega.{arith}
+use lib.Dec.{ltb}
 use borrow.Author.Needs.{needs}
 use borrow.Author.Tests.{lt-ltb, le-ltb}
-use Rattle.editor.specs.Rows.{firstBeyond, checkRows}
+use Rattle.pairs.specs.declared.Masks.{Masks}
+use Rattle.editor.specs.Rows.{firstBeyond, cyclic, checkRows, preceding}
 use Rattle.editor.proofs.checks.check.Statement.{statement}
 use Rattle.editor.proofs.checks.check.Tie as tie
 
@@ -11,46 +15,45 @@ returns : tie.Need-returns
 unfolding checkRows
 returns c = record { is = rw (lt-ltb 32 _ (c .if1 .taken)); named = λ e. absurd (omega arith) }
 
+-- the row that is lent
+abbrev row : tie.Start → Masks
+row s = preceding (s .args .n) (s .args .precedes .now)
+
+-- the records are not too many
+few : (c : tie.Else1) → ltb 32 (c .before .args .n) ≡ false
+few c = le-ltb 32 (c .before .args .n) (c .if1 .left)
+
 returns-2 : tie.Need-returns-2
 unfolding checkRows
 returns-2 c =
-    let m = c .before .before .before .args .m in
-    let e : c .before .first-beyond .result ≡ firstBeyond m = c .before .first-beyond .ensures .is in
+    let f = c .before in
+    let e : f .first-beyond .result ≡ firstBeyond (row (f .before .before)) = f .first-beyond .ensures .is in
     record {
-      is = rw (le-ltb 32 (m .n) (c .before .before .if1 .left), sym e, lt-ltb _ (m .n) (c .if2 .taken));
+      is = rw (few (f .before), sym e, lt-ltb _ _ (c .if2 .taken));
       named = λ z. absurd (omega arith);
     }
 
+-- no record is beyond the row
+inside : (c : tie.Else2) → ltb (firstBeyond (row (c .before .before .before))) (c .before .before .before .args .n) ≡ false
+inside c =
+    ap (λ (x : ℕ). ltb x (c .before .before .before .args .n)) (sym (c .before .first-beyond .ensures .is)) ∙ le-ltb _ _ (c .if2 .left)
+
 returns-3 : tie.Need-returns-3
-unfolding checkRows
+unfolding checkRows cyclic
 returns-3 c =
-    let m = c .before .before .before .before .before .args .m in
-    let e : c .before .before .before .first-beyond .result ≡ firstBeyond m =
-    c .before .before .before .first-beyond .ensures .is in
+    let i = c .before .before .before in
     record {
-      is = rw (
-        le-ltb 32 (m .n) (c .before .before .before .before .if1 .left),
-        sym e,
-        le-ltb _ (m .n) (c .before .before .if2 .left),
-        sym (c .before .cyclic .ensures) ∙ c .if3 .taken,
-      );
+      is = rw (few (i .before .before), inside i, sym (c .before .row-cyclic .ensures) ∙ c .if3 .taken);
       named = λ z. absurd (omega arith);
     }
 
 returns-4 : tie.Need-returns-4
-unfolding checkRows
+unfolding checkRows cyclic
 returns-4 c =
-    let m = c .before .before .before .before .before .args .m in
-    let first = c .before .before .before .first-beyond in
-    let e : first .result ≡ firstBeyond m = first .ensures .is in
+    let i = c .before .before .before in
     record {
-      is = rw (
-        le-ltb 32 (m .n) (c .before .before .before .before .if1 .left),
-        sym e,
-        le-ltb _ (m .n) (c .before .before .if2 .left),
-        sym (c .before .cyclic .ensures) ∙ c .if3 .left,
-      );
-      named = λ z i l. first .ensures .named i (omega (arith, l, c .before .before .if2 .left));
+      is = rw (few (i .before .before), inside i, sym (c .before .row-cyclic .ensures) ∙ c .if3 .left);
+      named = λ z x l. i .before .first-beyond .ensures .named x (omega (arith, l, i .if2 .left));
     }
 
 pub check-spec : {M : Type 1} → statement M

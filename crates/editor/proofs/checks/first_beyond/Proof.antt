@@ -26,33 +26,33 @@ abbrev μ-loop : tie.MeasureT-loop
 μ-loop n precedes i₀ i = n - i
 
 loop-holds : tie.Need-loop-holds Inv-loop μ-loop
-loop-holds c = (search needs, c .before .pre, record { passed = passed-none; named = λ x l. absurd (omega (arith, l)) })
+loop-holds c = (search needs, c .pre, record { passed = passed-none; named = λ x l. absurd (omega (arith, l)) })
 
 returns : tie.Need-returns Inv-loop μ-loop
 unfolding firstBeyond
 returns c =
-    let m = c .before .before .before .before .before .before .args .m in
-    let at = c .before .before .before .before .loop in
-    let e : c .before .before .bits .result ≡ getD (m .precedes) (at .i) 0 = c .before .before .bits .ensures .0 in
+    let a = c .before .before .before .before .before .before .args in
+    let at = c .before .before .before .before .before .loop in
+    let e : c .before .before .bits .result ≡ getD (a .precedes .now) (at .i) 0 = c .before .before .bits .ensures .0 in
     record {
       is = passed-here (at .inv .2 .passed) (omega arith)
-          (ap (λ (x : ℕ). beyond x (m .n)) (sym e) ∙ sym (c .before .beyond .ensures) ∙ c .if1 .taken);
+          (ap (λ (x : ℕ). beyond x (a .n)) (sym e) ∙ sym (c .before .beyond .ensures) ∙ c .if1 .taken);
       named = at .inv .2 .named;
     }
 
 loop-again : tie.Need-loop-again Inv-loop μ-loop
 loop-again c =
-    let m = c .before .before .before .before .before .before .args .m in
-    let at = c .before .before .before .before .loop in
-    let e : c .before .before .bits .result ≡ getD (m .precedes) (at .i) 0 = c .before .before .bits .ensures .0 in
-    let clean : beyond (getD (m .precedes) (at .i) 0) (m .n) ≡ false =
-    ap (λ (x : ℕ). beyond x (m .n)) (sym e) ∙ sym (c .before .beyond .ensures) ∙ c .if1 .left in (
+    let a = c .before .before .before .before .before .before .args in
+    let at = c .before .before .before .before .before .loop in
+    let e : c .before .before .bits .result ≡ getD (a .precedes .now) (at .i) 0 = c .before .before .bits .ensures .0 in
+    let clean : beyond (getD (a .precedes .now) (at .i) 0) (a .n) ≡ false =
+    ap (λ (x : ℕ). beyond x (a .n)) (sym e) ∙ sym (c .before .beyond .ensures) ∙ c .if1 .left in (
       search needs,
       at .inv .1,
       record {
         passed = passed-more (at .inv .2 .passed) clean;
-        named = below-more (λ (x : ℕ). getD (m .precedes) x 0 < 2 ^ m .n) (at .i) (at .inv .2 .named)
-            (not-beyond (getD (m .precedes) (at .i) 0) (m .n) (c .before .before .bits .ensures .1) clean);
+        named = below-more (λ (x : ℕ). getD (a .precedes .now) x 0 < 2 ^ a .n) (at .i) (at .inv .2 .named)
+            (not-beyond (getD (a .precedes .now) (at .i) 0) (a .n) (c .before .before .bits .ensures .1) clean);
       },
     )
 

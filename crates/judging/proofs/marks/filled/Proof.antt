@@ -1,51 +1,58 @@
 -- The rows before row i are filled in, and `at` is where row i starts.
-use mathlib.Core.Path.{_≡_, refl, subst}
+use mathlib.Core.Path.{_≡_, refl, sym, _∙_, subst}
 use Prim.Native.Nat.{ℕ, _≤_, _-_}
 use native.Mathlib.Numerals.{add-one}
 use native.Mathlib.Omega.{arith}
 use Rattle.mask.specs.Loops.{upto-none}
+use Rattle.pairs.specs.Turned.{Mutual}
 use Rattle.judging.specs.Index.{start}
 use Rattle.judging.specs.IndexLaws.{start-next, start-mono, start-all}
-use Rattle.judging.specs.Marking.{Filled, MarkAt, zeros, all-marks}
+use Rattle.judging.specs.Marking.{graphsIn, Filled, MarkAt, zeros, zeros-size, all-marks}
 use borrow.Author.Needs.{needs}
 use Rattle.judging.proofs.marks.filled.Statement.{statement}
 use Rattle.judging.proofs.marks.filled.Tie as tie
 
 abbrev Inv-loop : tie.InvT-loop
-Inv-loop g n q₀ at₀ i₀ q at i = (i ≤ n) × (n ≡ g .n) × (n ≤ 32) × (at ≡ start i) × Filled g i q
+Inv-loop trig ahead clash n q₀ at₀ i₀ q at i =
+    (i ≤ n) × (n ≤ 32) × (at ≡ start i) × Mutual clash × Filled (graphsIn n trig ahead clash) i q
 
 abbrev μ-loop : tie.MeasureT-loop
-μ-loop g n q₀ at₀ i₀ q at i = n - i
+μ-loop trig ahead clash n q₀ at₀ i₀ q at i = n - i
 
 loop-holds : tie.Need-loop-holds Inv-loop μ-loop
-unfolding start zeros
-loop-holds c = (search needs, refl, c .pre, refl, upto-none (MarkAt (c .args .g)) zeros)
+unfolding start
+loop-holds c =
+    let s = c .args in
+    let g = graphsIn (s .n) (s .trig .now) (s .ahead .now) (s .clash .now) in
+    (search needs, c .pre .0, refl, c .pre .1, subst (Filled g 0) (sym (c .pre .2)) (upto-none (MarkAt g) zeros))
 
 row-requires : tie.Need-row-requires Inv-loop μ-loop
 row-requires c κs =
-    let inv = c .before .loop .inv in
-    record { few = omega arith; present = omega arith; here = inv .3; filled = inv .4 }
+    let inv = c .before .before .loop .inv in
+    record { few = inv .1; both = inv .3; present = omega arith; here = inv .2; filled = inv .4 }
 
 add-at : tie.Need-add-at Inv-loop μ-loop
 add-at c =
-    omega (arith, c .before .before .loop .inv, start-mono (c .before .before .loop .i) 31 (omega arith), start-all)
+    let at = c .before .before .before .loop in
+    omega (arith, at .inv, start-mono (at .i) 31 (omega arith), start-all)
 
 loop-again : tie.Need-loop-again Inv-loop μ-loop
 loop-again c =
-    let inv = c .before .before .loop .inv in (
+    let at = c .before .before .before .loop in (
       omega arith,
-      inv .1,
-      inv .2,
-      rw add-one (omega (arith, inv .3, start-next (c .before .before .loop .i))),
+      at .inv .1,
+      rw add-one (omega (arith, at .inv .2, start-next (at .i))),
+      at .inv .3,
       rw add-one (c .row .ensures),
     )
 
 returns : tie.Need-returns Inv-loop μ-loop
 returns c =
-    let g = c .before .before .args .g in
+    let s = c .before .before .args in
+    let g = graphsIn (s .n) (s .trig .now) (s .ahead .now) (s .clash .now) in
     let at = c .before .loop in
-    let e : at .i ≡ g .n = omega arith in
-    all-marks g (at .q) (subst (λ (k : ℕ). Filled g k (at .q)) e (at .inv .4))
+    let e : at .i ≡ s .n = omega arith in
+    (at .inv .4 .len ∙ zeros-size, all-marks g (at .q) (subst (λ (k : ℕ). Filled g k (at .q)) e (at .inv .4)))
 
 pub filled-spec : {M : Type 1} → statement M
 filled-spec =

@@ -16,17 +16,15 @@ pair-at-requires c κs =
       arith,
       c .before .first-mark .ensures,
       c .if1 .left,
-      least-is 496
-          (failsAt (c .before .before .args .q)) .bound,
+      least-is 496 (failsAt (c .before .before .args .q .now)) .bound,
     )
 
 returns-2 : tie.Need-returns-2
 returns-2 c =
-    let s = c .before .before .before .before .before .before .before in
-    let p = c .before .before .before .before .pair-at in
-    first-some (s .args .g) (s .args .q) _ _ _ _ _ (c .judge .result .fails) (s .pre)
-    (c .before .before .before .before .before .before .first-mark .ensures)
-    (pair-at-requires (c .before .before .before .before .before) (p .lifetimes))
+    let p = c .before .pair-at in
+    let f = c .before .before .before in
+    first-some _ (f .before .args .q .now) _ _ _ _ _ (c .judge .result .fails) (f .before .pre .1)
+    (f .first-mark .ensures) (pair-at-requires (c .before .before) (p .lifetimes))
     (p .ensures .0) (p .ensures .1) (p .ensures .2) (c .judge .ensures)
 
 pub first-failing-spec : {M : Type 1} → statement M

@@ -4,7 +4,6 @@ use mathlib.Core.Bool.{false}
 use Prim.Native.Nat.{ℕ, _≤_, _<_, _-_}
 use native.Mathlib.Nat.{lt-irrefl}
 use native.Mathlib.Omega.{arith}
-use lib.ListN.{length}
 use borrow.Author.Count.{below-none, below-more}
 use borrow.Author.Tests.{eq-eqb, ne-eqb}
 use Rattle.mask.specs.SearchLaws.{least-by}
@@ -14,37 +13,30 @@ use Rattle.judging.proofs.marks.first_mark.Statement.{statement}
 use Rattle.judging.proofs.marks.first_mark.Tie as tie
 
 abbrev Inv-loop : tie.InvT-loop
-Inv-loop q k₀ k = (k ≤ 496) × (length q ≡ 496) × ((y : ℕ) → y < k → failsAt q y ≡ false)
+Inv-loop q k₀ k = (k ≤ 496) × ((y : ℕ) → y < k → failsAt q y ≡ false)
 
 abbrev μ-loop : tie.MeasureT-loop
 μ-loop q k₀ k = 496 - k
 
 loop-holds : tie.Need-loop-holds Inv-loop μ-loop
-loop-holds c = (search needs, search needs, below-none _)
+loop-holds c = (search needs, below-none _)
 
 returns : tie.Need-returns Inv-loop μ-loop
 returns c =
-    least-by 496 (failsAt (c .before .before .before .args .t1)) _
-    (record {
-      bound = c .before .before .loop .inv .0;
-      is = λ l. eq-eqb _ _ (c .if1 .taken);
-      first = c .before .before .loop .inv .2;
-    })
+    let at = c .before .before .before in
+    least-by 496 (failsAt (at .before .args .q .now)) _
+    (record { bound = at .loop .inv .0; is = λ l. eq-eqb _ _ (c .if1 .taken); first = at .loop .inv .1 })
 
 loop-again : tie.Need-loop-again Inv-loop μ-loop
-loop-again c = (
-  omega arith,
-  c .before .before .loop .inv .1,
-  below-more _ _ (c .before .before .loop .inv .2) (ne-eqb _ _ (c .if1 .left)),
-)
+loop-again c = (omega arith, below-more _ _ (c .before .before .before .loop .inv .1) (ne-eqb _ _ (c .if1 .left)))
 
 returns-2 : tie.Need-returns-2 Inv-loop μ-loop
 returns-2 c =
-    least-by 496 (failsAt (c .before .before .args .t1)) _
+    least-by 496 (failsAt (c .before .before .args .q .now)) _
     (record {
       bound = search needs;
       is = λ l. absurd (lt-irrefl 496 l);
-      first = λ y l. c .before .loop .inv .2 y (omega arith);
+      first = λ y l. c .before .loop .inv .1 y (omega arith);
     })
 
 pub first-mark-spec : {M : Type 1} → statement M

@@ -1,22 +1,24 @@
 -- The marks before row i and those of row i up to j are filled in; what is left of the row stands for absent rules.
-use mathlib.Core.Path.{_≡_, refl}
+use mathlib.Core.Path.{_≡_}
 use mathlib.Core.Logic.{⊎-elim}
 use Prim.Native.Nat.{_≤_, _<_, _-_, _+_}
 use native.Mathlib.Omega.{arith}
 use Rattle.mask.specs.Loops.{Upto}
+use Rattle.pairs.specs.Turned.{Mutual}
 use Rattle.judging.specs.Index.{start}
 use Rattle.judging.specs.IndexLaws.{index-lt}
-use Rattle.judging.specs.Marking.{MarkAt, zeros, zeros-size, mark-stored, mark-kept, row-end}
+use Rattle.judging.specs.Marking.{graphsIn, MarkAt, zeros, mark-stored, mark-kept, row-end}
 use borrow.Author.Needs.{needs}
 use Rattle.judging.proofs.marks.row.Statement.{statement}
 use Rattle.judging.proofs.marks.row.Tie as tie
 
 abbrev Inv-loop : tie.InvT-loop
-Inv-loop g i at n q₀ j₀ q j =
-    (i < j) × (j ≤ n) × (n ≡ g .n) × (n ≤ 32) × (at ≡ start i) × Upto (MarkAt g) zeros (at + (j - (i + 1))) q
+Inv-loop trig ahead clash n i at q₀ j₀ q j =
+    (i < j) × (j ≤ n) × (n ≤ 32) × (at ≡ start i) × Mutual clash
+    × Upto (MarkAt (graphsIn n trig ahead clash)) zeros (at + (j - (i + 1))) q
 
 abbrev μ-loop : tie.MeasureT-loop
-μ-loop g i at n q₀ j₀ q j = n - j
+μ-loop trig ahead clash n i at q₀ j₀ q j = n - j
 
 add-j : tie.Need-add-j Inv-loop μ-loop
 add-j c = omega (arith, c .pre .few, c .pre .present)
@@ -26,9 +28,9 @@ loop-holds c =
     let k : c .args .at + ((c .args .i + 1) - (c .args .i + 1)) ≡ start (c .args .i) = omega (arith, c .pre .here) in (
       omega arith,
       omega (arith, c .pre .present),
-      refl,
       c .pre .few,
       c .pre .here,
+      c .pre .both,
       rw k (c .pre .filled),
     )
 
@@ -36,7 +38,7 @@ unordered-requires : tie.Need-unordered-requires Inv-loop μ-loop
 unordered-requires c κs = (omega arith, omega arith)
 
 mark-requires : tie.Need-mark-requires Inv-loop μ-loop
-mark-requires c κs = (omega arith, omega arith)
+mark-requires c κs = (omega arith, omega arith, c .before .before .before .loop .inv .4)
 
 -- the place of the pair
 place : (c : tie.In-loop Inv-loop μ-loop)
@@ -51,19 +53,18 @@ place c =
 add-q-2 : tie.Need-add-q-2 Inv-loop μ-loop
 add-q-2 c = omega (arith, place (c .before .before .before))
 
-array-write-q : tie.Need-array-write-q Inv-loop μ-loop
-array-write-q c =
-    omega (arith, place (c .before .before .before), c .before .before .before .before .loop .inv .5 .len, zeros-size)
+element-write-q : tie.Need-element-write-q Inv-loop μ-loop
+element-write-q c = place (c .before .before .before)
 
 loop-again : tie.Need-loop-again Inv-loop μ-loop
 loop-again c =
     let at = c .before .before .before .loop in
     let s = c .before .before .before .before .args in
     let order = c .before .unordered .ensures in
-    let few : s .g .n ≤ 32 = omega arith in
-    let l : at .j < s .g .n = omega arith in
-    let stored = mark-stored (s .g) (s .i) (at .j) (s .at) (at .q) few (at .inv .0) l (at .inv .4) (at .inv .5) in
-    let kept = mark-kept (s .g) (s .i) (at .j) (s .at) (at .q) few (at .inv .0) l (at .inv .4) (at .inv .5) in (
+    let g = graphsIn (s .n) (s .trig .now) (s .ahead .now) (s .clash .now) in
+    let l : at .j < s .n = omega arith in
+    let stored = mark-stored g (s .i) (at .j) (s .at) (at .q) (at .inv .2) (at .inv .0) l (at .inv .3) (at .inv .5) in
+    let kept = mark-kept g (s .i) (at .j) (s .at) (at .q) (at .inv .2) (at .inv .0) l (at .inv .3) (at .inv .5) in (
       omega arith,
       omega arith,
       at .inv .2,
@@ -78,7 +79,8 @@ loop-again c =
 returns : tie.Need-returns Inv-loop μ-loop
 returns c =
     let s = c .before .before .args in
-    row-end (s .g) (s .i) _ (c .before .loop .q) (omega arith) (omega arith) (omega arith) (c .before .loop .inv .5)
+    let g = graphsIn (s .n) (s .trig .now) (s .ahead .now) (s .clash .now) in
+    row-end g (s .i) _ (c .before .loop .q) (omega arith) (omega arith) (omega arith) (c .before .loop .inv .5)
 
 pub row-spec : {M : Type 1} → statement M
 row-spec =
@@ -93,7 +95,7 @@ row-spec =
     (λ c. search needs)
     (λ c. search needs)
     add-q-2
-    array-write-q
+    element-write-q
     (λ c. search needs)
     (λ c. search needs)
     loop-again

@@ -2,30 +2,42 @@
 use mathlib.Core.Path.{sym, _∙_}
 use mathlib.Core.Logic.{inl, inr}
 use mathlib.Core.Bool.{false≢true}
+use Rattle.pairs.specs.Turned.{turned-edge}
 use borrow.Author.Needs.{needs}
 use Rattle.judging.proofs.marks.unordered.Statement.{statement}
 use Rattle.judging.proofs.marks.unordered.Tie as tie
 
 returns : tie.Need-returns
 returns c =
+    let s = c .before .before .before in
     record {
       unordered = λ e. absurd (false≢true e);
-      ordered = λ e. inl (sym (c .before .has .ensures) ∙ c .if1 .taken);
+      ordered = λ e.
+          inl (turned-edge (s .args .ahead .now) (s .args .j) (s .args .i) (s .pre .1) (s .pre .0)
+          ∙ sym (c .before .has .ensures) ∙ c .if1 .taken);
     }
 
 returns-2 : tie.Need-returns-2
 returns-2 c =
+    let s = c .before .before .before .before .before .before in
     record {
       unordered = λ e. absurd (false≢true e);
-      ordered = λ e. inr (sym (c .before .has2 .ensures) ∙ c .if2 .taken);
+      ordered = λ e.
+          inr (turned-edge (s .args .ahead .now) (s .args .i) (s .args .j) (s .pre .0) (s .pre .1)
+          ∙ sym (c .before .has2 .ensures) ∙ c .if2 .taken);
     }
 
 returns-3 : tie.Need-returns-3
 returns-3 c =
+    let f = c .before .before .before in
+    let s = f .before .before .before in
+    let turn = turned-edge (s .args .ahead .now) in
     record {
       unordered = λ e. (
-        λ b. false≢true (sym (c .before .before .if1 .left) ∙ c .before .before .before .has .ensures ∙ b),
-        λ b. false≢true (sym (c .if2 .left) ∙ c .before .has2 .ensures ∙ b),
+        λ b. false≢true (sym (f .if1 .left) ∙ f .before .has .ensures
+            ∙ sym (turn (s .args .j) (s .args .i) (s .pre .1) (s .pre .0)) ∙ b),
+        λ b. false≢true (sym (c .if2 .left) ∙ c .before .has2 .ensures
+            ∙ sym (turn (s .args .i) (s .args .j) (s .pre .0) (s .pre .1)) ∙ b),
       );
       ordered = λ e. absurd (false≢true (sym e));
     }

@@ -14,14 +14,14 @@ use Rattle.lines.proofs.text.+digits.Lts-digits as digits-lts
 use Rattle.lines.proofs.text.+digits.{statement}
 use Rattle.lines.proofs.text.+digits.Tie.{close}
 
-abbrev μ-digits : Measures 0 digits-kinds.ps ℕ
-μ-digits κs a = a .1 .1 .0
+abbrev μ-digits : Measures 1 digits-kinds.ps ℕ
+μ-digits κs a = a .1 .1 .1 .0
 
-abbrev digits-at : ℕ → In 0 digits-kinds.ps
-digits-at t = and 0 digits-kinds.ps (is 0 digits-kinds.ps μ-digits t) digits.Pre
+abbrev digits-at : ℕ → In 1 digits-kinds.ps
+digits-at t = and 1 digits-kinds.ps (is 1 digits-kinds.ps μ-digits t) digits.Pre
 
-abbrev digits-below : ℕ → In 0 digits-kinds.ps
-digits-below t = and 0 digits-kinds.ps (falls 0 digits-kinds.ps _<_ μ-digits t) digits.Pre
+abbrev digits-below : ℕ → In 1 digits-kinds.ps
+digits-below t = and 1 digits-kinds.ps (falls 1 digits-kinds.ps _<_ μ-digits t) digits.Pre
 
 abbrev calls : ℕ → digits-lts.Claims
 calls t = (push-reads.Asked, push-reads.Learnt, digits-below t, digits.Post)
@@ -30,7 +30,7 @@ module _ (t : ℕ) where
   returns : digits-lts.Need-returns (calls t) (digits-at t) digits.Post
   returns c =
       let a = c .before .args in
-      added-as (added-none (a .t)) (sym (digits-none (a .f) (a .x) (c .if1 .taken))) (omega arith)
+      added-as (added-none (a .out .now) (a .at)) (sym (digits-none (a .f) (a .x) (c .if1 .taken))) (omega arith)
 
   cast-push : digits-lts.Need-cast-push (calls t) (digits-at t) digits.Post
   cast-push c = omega arith
@@ -43,8 +43,8 @@ module _ (t : ℕ) where
 
   returns-2 : digits-lts.Need-returns-2 (calls t) (digits-at t) digits.Post
   returns-2 c =
-      let a = c .before .before .before .args in
-      added-as (c .push .ensures) (sym (digits-last (a .f) (a .x) (omega arith) (c .before .if2 .taken))) (omega arith)
+      let a = c .before .before .before .before .args in
+      added-as (c .push .ensures) (sym (digits-last (a .f) (a .x) (omega arith) (c .before .before .if2 .taken))) (omega arith)
 
   sub-digits : digits-lts.Need-sub-digits (calls t) (digits-at t) digits.Post
   sub-digits c = omega arith
@@ -63,9 +63,10 @@ module _ (t : ℕ) where
 
   returns-3 : digits-lts.Need-returns-3 (calls t) (digits-at t) digits.Post
   returns-3 c =
-      let a = c .before .before .before .before .args in
-      added-as (added-on (c .before .digits .ensures) (c .push2 .ensures))
-      (sym (digits-more (a .f) (a .x) (omega arith) (c .before .before .if2 .left)))
+      let d = c .before .before in
+      let a = d .before .before .before .before .args in
+      added-as (added-on (d .digits .ensures) (c .push2 .ensures))
+      (sym (digits-more (a .f) (a .x) (omega arith) (d .before .before .if2 .left)))
       (omega arith)
 
 pub +digits-spec : {M : Type 1} → statement M

@@ -8,8 +8,7 @@ use native.Mathlib.Omega.{arith}
 use Rattle.mask.specs.Mask.{has}
 use Rattle.endian.specs.Joined.{joined, joined-more}
 use Rattle.lines.specs.Text.{spaced, membersText}
-use Rattle.lines.specs.Added.{Room, Added, added-on, added-none, added-as}
-use Rattle.lines.specs.declared.text.Text.{Text}
+use Rattle.lines.specs.Added.{Added, added-on, added-none, added-as}
 use borrow.Author.Needs.{needs}
 use Rattle.lines.proofs.text.members.Statement.{statement}
 use Rattle.lines.proofs.text.members.Tie as tie
@@ -18,21 +17,21 @@ use Rattle.lines.proofs.text.members.Tie as tie
 abbrev here : ℕ → ℕ → List ℕ
 here m i = cond (has m i) (spaced i) []
 
-next : (m i : ℕ) {t r : Text} → Added t (joined i (here m)) (11 * i) r → (b : Bool) → has m i ≡ b → {s : Text}
-    → Added r (cond b (spaced i) []) 11 s → Added t (joined (i + 1) (here m)) (11 * (i + 1)) s
+next : (m i : ℕ) {d : List ℕ} {at : ℕ} {e : List ℕ} {p : ℕ} → Added d at (joined i (here m)) (11 * i) e p → (b : Bool) → has m i ≡ b
+    → {f : List ℕ} {q : ℕ} → Added e p (cond b (spaced i) []) 11 f q → Added d at (joined (i + 1) (here m)) (11 * (i + 1)) f q
 next m i h b e g =
     let added = ap (λ (x : Bool). joined i (here m) ++ cond x (spaced i) []) (sym e) in
     added-as (added-on h g) (added ∙ sym (joined-more i (here m))) (omega arith)
 
 abbrev Inv-loop : tie.InvT-loop
-Inv-loop m r₀ i₀ r i = (i ≤ 32) × Room r₀ 352 × Added r₀ (joined i (here m)) (11 * i) r
+Inv-loop out₀ at m end₀ i₀ out end i = (i ≤ 32) × (at + 352 ≤ 512) × Added out₀ at (joined i (here m)) (11 * i) out end
 
 abbrev μ-loop : tie.MeasureT-loop
-μ-loop m r₀ i₀ r i = 32 - i
+μ-loop out₀ at m end₀ i₀ out end i = 32 - i
 
 loop-holds : tie.Need-loop-holds Inv-loop μ-loop
 unfolding joined
-loop-holds c = (omega arith, c .pre, added-none (c .args .t))
+loop-holds c = (omega arith, c .pre, added-none (c .args .out .now) (c .args .at))
 
 loop-again : tie.Need-loop-again Inv-loop μ-loop
 loop-again c =
@@ -42,10 +41,10 @@ loop-again c =
       omega arith,
       at .inv .1,
       ⊎-elim
-          (λ w. rw (w .2) (next m (at .i) (at .inv .2) true (sym told ∙ w .0 .taken) (w .1 .ensures)))
+          (λ w. rw (w .3, w .4) (next m (at .i) (at .inv .2) true (sym told ∙ w .0 .taken) (w .2 .ensures)))
           (λ w.
-          rw (w .1)
-          (next m (at .i) (at .inv .2) false (sym told ∙ w .0 .left) (added-as (added-none (at .r)) refl (omega arith))))
+          rw (w .1, w .2)
+          (next m (at .i) (at .inv .2) false (sym told ∙ w .0 .left) (added-as (added-none (at .out) (at .end)) refl (omega arith))))
           (c .if1 .came),
     )
 

@@ -8,7 +8,7 @@ use Rattle.lines.proofs.text.two_numbers.Tie as tie
 
 returns : tie.Need-returns
 unfolding twoNumbers
-returns c = added-as (added-on (c .before .before .number .ensures) (c .number2 .ensures)) (cc) (omega arith)
+returns c = added-as (added-on (c .before .before .before .number .ensures) (c .number2 .ensures)) (cc) (omega arith)
 
 pub two-numbers-spec : {M : Type 1} → statement M
 two-numbers-spec =

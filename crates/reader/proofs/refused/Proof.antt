@@ -1,9 +1,0 @@
-use borrow.Author.Needs.{needs}
-use Rattle.reader.proofs.refused.Statement.{statement}
-use Rattle.reader.proofs.refused.Tie as tie
-
-returns : tie.Need-returns
-returns c = rw (c .no-table .ensures)
-
-pub refused-spec : {M : Type 1} → statement M
-refused-spec = tie.close (tie.spec (λ c κs. search needs) returns)

@@ -1,0 +1,207 @@
+// The numbers 5 to 9 of a rule where its bytes lie, in a table or in a book.
+ghost use mathlib.Core.Path.{_≡_};
+ghost use mathlib.Core.Bool.{not, _&&_};
+ghost use Prim.Native.Nat.{_+_, _*_, _≤_, _<_};
+ghost use lib.Dec.{ltb, eqb};
+ghost use lib.ListN.{length};
+ghost use Rattle.mask.specs.Search.{some};
+ghost use Rattle.rule.specs.Numbers.{outOfRange, notZero, testCellBad, assignCellBad, testFormBad, assignFormBad, testSlotBad, assignSlotBad, slotted, letterBad, countsBad, cellsBad, formsBad, twice, lettersBad};
+ghost use Rattle.endian.specs.Little.{byteAt};
+ghost use Rattle.parts.specs.Parts.{testIn, assignIn, ruleOf};
+ghost use Rattle.rule_check.specs.With.{numberWith};
+ghost use Rattle.rule_check.specs.Names.{takenIn};
+ghost use Rattle.rule_check.specs.In.{Lies, Fitted};
+
+mod fields;
+
+// Whether an amount is out of range.
+pub fn out_of_range(v: i64) -> bool
+    ensures { λ r. ⌜ r ≡ outOfRange v ⌝ }
+{
+    (v < -1000000000000) | (1000000000000 < v)
+}
+
+// Whether one of the first i names of the row is this one.
+pub fn taken(names: &[u64; 64], i: usize, low: u64, high: u64) -> bool
+    requires { ⌜ i ≤ 32 ⌝ }
+    ensures { λ r. ⌜ r ≡ takenIn (now (names .entry)) i low high ⌝ }
+{
+    let mut found = false;
+    for h in 0..i {
+        found = ((names[2 * h] == low) & (names[2 * h + 1] == high)) | found;
+    }
+    found
+}
+
+fn counts_bad(s: &[u8], at: usize) -> bool
+    requires { ⌜ at + 12 ≤ length (now s) ⌝ }
+    ensures { λ r. ⌜ r ≡ countsBad (ruleOf (now (s .entry)) at 0 0 0) ⌝ }
+{
+    let t = s[at + 8];
+    let a = s[at + 9];
+    let m = s[at + 10];
+    let z = s[at + 11];
+    (8 < t) | (8 < a) | (m < 1) | (16 < m) | (z != 0)
+}
+
+fn test_cells_bad(s: &[u8], p: usize, t: usize, k: u8) -> bool
+    requires { ⌜ (t ≤ 8) × (p + 12 * t ≤ length (now s)) ⌝ }
+    ensures { λ r. ⌜ r ≡ some t (λ j. testCellBad k (testIn (now (s .entry)) (p + 12 * j))) ⌝ }
+{
+    let mut bad = false;
+    for j in 0..t {
+        let x = parts::read_test(s, p + 12 * j);
+        bad = fields::test_cell_bad(x, k) | bad;
+    }
+    bad
+}
+
+fn assign_cells_bad(s: &[u8], p: usize, a: usize, k: u8) -> bool
+    requires { ⌜ (a ≤ 8) × (p + 20 * a ≤ length (now s)) ⌝ }
+    ensures { λ r. ⌜ r ≡ some a (λ j. assignCellBad k (assignIn (now (s .entry)) (p + 20 * j))) ⌝ }
+{
+    let mut bad = false;
+    for j in 0..a {
+        let x = parts::read_assign(s, p + 20 * j);
+        bad = fields::assign_cell_bad(x, k) | bad;
+    }
+    bad
+}
+
+fn test_forms_bad(s: &[u8], p: usize, t: usize, room: usize) -> bool
+    requires { ⌜ (room ≤ 8) × (p + 12 * room ≤ length (now s)) ⌝ }
+    ensures { λ r. ⌜ r ≡ some room (λ j. slotted (ltb j t) (testFormBad (testIn (now (s .entry)) (p + 12 * j))) (testSlotBad (testIn (now (s .entry)) (p + 12 * j)))) ⌝ }
+{
+    let mut bad = false;
+    for j in 0..room {
+        let x = parts::read_test(s, p + 12 * j);
+        let counted = j < t;
+        bad = ((counted & fields::test_form_bad(x)) | (!counted & fields::test_slot_bad(x))) | bad;
+    }
+    bad
+}
+
+fn assign_forms_bad(s: &[u8], p: usize, a: usize, room: usize) -> bool
+    requires { ⌜ (room ≤ 8) × (p + 20 * room ≤ length (now s)) ⌝ }
+    ensures { λ r. ⌜ r ≡ some room (λ j. slotted (ltb j a) (assignFormBad (assignIn (now (s .entry)) (p + 20 * j))) (assignSlotBad (assignIn (now (s .entry)) (p + 20 * j)))) ⌝ }
+{
+    let mut bad = false;
+    for j in 0..room {
+        let x = parts::read_assign(s, p + 20 * j);
+        let counted = j < a;
+        bad = ((counted & fields::assign_form_bad(x)) | (!counted & fields::assign_slot_bad(x)))
+            | bad;
+    }
+    bad
+}
+
+fn letters_left(s: &[u8], p: usize, m: usize, room: usize) -> bool
+    requires { ⌜ (room ≤ 16) × (p + room ≤ length (now s)) ⌝ }
+    ensures { λ r. ⌜ r ≡ some room (λ j. not (ltb j m) && notZero (byteAt (now (s .entry)) (p + j))) ⌝ }
+{
+    let mut bad = false;
+    for j in 0..room {
+        bad = (!(j < m) & (s[p + j] != 0)) | bad;
+    }
+    bad
+}
+
+fn letters_bad(s: &[u8], p: usize, m: usize) -> bool
+    requires { ⌜ (m ≤ 16) × (p + m ≤ length (now s)) ⌝ }
+    ensures { λ r. ⌜ r ≡ some m (λ j. letterBad (byteAt (now (s .entry)) (p + j))) ⌝ }
+{
+    let mut bad = false;
+    for j in 0..m {
+        bad = fields::letter_bad(s[p + j]) | bad;
+    }
+    bad
+}
+
+// Whether assignment j has the target of an earlier one.
+fn target_taken(s: &[u8], p: usize, j: usize) -> bool
+    requires { ⌜ (j < 8) × (p + 20 * j < length (now s)) ⌝ }
+    ensures { λ r. ⌜ r ≡ some j (λ i. eqb (byteAt (now (s .entry)) (p + 20 * i)) (byteAt (now (s .entry)) (p + 20 * j))) ⌝ }
+{
+    let y = s[p + 20 * j];
+    let mut bad = false;
+    for i in 0..j {
+        bad = (s[p + 20 * i] == y) | bad;
+    }
+    bad
+}
+
+fn targets_twice(s: &[u8], p: usize, a: usize) -> bool
+    requires { ⌜ (a ≤ 8) × (p + 20 * a ≤ length (now s)) ⌝ }
+    ensures { λ r. ⌜ r ≡ some a (λ j. some j (λ i. eqb (byteAt (now (s .entry)) (p + 20 * i)) (byteAt (now (s .entry)) (p + 20 * j)))) ⌝ }
+{
+    let mut bad = false;
+    for j in 0..a {
+        bad = target_taken(s, p, j) | bad;
+    }
+    bad
+}
+
+// 6 of the rule whose head is at `at`, with room for t tests, a assignments and m letters after it.
+fn cells_in(s: &[u8], at: usize, t: usize, a: usize, m: usize, n: u8, k: u8) -> bool
+    requires { ⌜ Fitted (now s) at t a m × (n ≤ 32) × (k ≤ 32) ⌝ }
+    ensures { λ r. ⌜ r ≡ cellsBad n k (ruleOf (now (s .entry)) at t a m) ⌝ }
+{
+    let ct = rule::count(s[at + 8]);
+    let ca = rule::count(s[at + 9]);
+    mask::beyond(endian::u32_at(s, at), rule::count(k))
+        | mask::beyond(endian::u32_at(s, at + 4), rule::count(n))
+        | test_cells_bad(s, at + 12, ct, k)
+        | assign_cells_bad(s, at + 12 + 12 * t, ca, k)
+}
+
+// 7 of that rule.
+fn forms_in(s: &[u8], at: usize, t: usize, a: usize, m: usize) -> bool
+    requires { ⌜ Fitted (now s) at t a m ⌝ }
+    ensures { λ r. ⌜ r ≡ formsBad (ruleOf (now (s .entry)) at t a m) ⌝ }
+{
+    let ct = rule::count(s[at + 8]);
+    let ca = rule::count(s[at + 9]);
+    let cm = rule::count(s[at + 10]);
+    test_forms_bad(s, at + 12, ct, t)
+        | assign_forms_bad(s, at + 12 + 12 * t, ca, a)
+        | letters_left(s, at + 12 + 12 * t + 20 * a, cm, m)
+}
+
+// 8 of that rule.
+fn twice_in(s: &[u8], at: usize, t: usize, a: usize, m: usize) -> bool
+    requires { ⌜ Fitted (now s) at t a m ⌝ }
+    ensures { λ r. ⌜ r ≡ twice (ruleOf (now (s .entry)) at t a m) ⌝ }
+{
+    targets_twice(s, at + 12 + 12 * t, rule::count(s[at + 9]))
+}
+
+// 9 of that rule, first half.
+fn letters_in(s: &[u8], at: usize, t: usize, a: usize, m: usize) -> bool
+    requires { ⌜ Fitted (now s) at t a m ⌝ }
+    ensures { λ r. ⌜ r ≡ lettersBad (ruleOf (now (s .entry)) at t a m) ⌝ }
+{
+    letters_bad(s, at + 12 + 12 * t + 20 * a, rule::count(s[at + 10]))
+}
+
+// Its number, or 0, where it is known whether an earlier rule has its name.
+pub fn number_in(s: &[u8], at: usize, t: usize, a: usize, m: usize, n: u8, k: u8, taken: bool) -> u8
+    requires { ⌜ Lies (now s) at t a m × (n ≤ 32) × (k ≤ 32) ⌝ }
+    ensures { λ x. ⌜ x ≡ numberWith n k taken (ruleOf (now (s .entry)) at t a m) ⌝ }
+{
+    if counts_bad(s, at) {
+        return 5;
+    }
+    if cells_in(s, at, t, a, m, n, k) {
+        return 6;
+    }
+    if forms_in(s, at, t, a, m) {
+        return 7;
+    }
+    if twice_in(s, at, t, a, m) {
+        return 8;
+    }
+    if letters_in(s, at, t, a, m) | taken {
+        return 9;
+    }
+    0
+}

@@ -1,0 +1,14 @@
+-- The closure of the precedes masks.
+use mathlib.Core.Path.{_∙_}
+use Rattle.table.specs.Table.{goesBefore}
+use Rattle.table.specs.Memory.{tableFrom}
+use borrow.Author.Needs.{needs}
+use Rattle.table.proofs.goes_before.Statement.{statement}
+use Rattle.table.proofs.goes_before.Tie as tie
+
+returns : tie.Need-returns
+unfolding goesBefore tableFrom
+returns c r s = c .closure .ensures r s ∙ rw (c .before .precedes .ensures, c .before .before .before .pre .1)
+
+pub goes-before-spec : {M : Type 1} → statement M
+goes-before-spec = tie.close (tie.spec (λ c κs. search needs) (λ c κs. search needs) returns)
