@@ -1,11 +1,11 @@
 //! A table of the second program as the border's bytes and back: "byte 0 and
 //! byte 3 not looked at (callers set 0), byte 1 n, byte 2 k, then 32 rules of
-//! 284 bytes each, laid out like a body with every slot present". A report and
-//! a state as bytes.
+//! 284 bytes each, laid out like a body with every slot present". A report, a
+//! state and the editor's rows as bytes.
 
 use crate::border::{AmountsBytes, ReportBytes, StateBytes, TableBytes};
 use crate::border::{AMOUNTS_BYTES, REPORT_BYTES, STATE_BYTES, TABLE_BYTES};
-use second::analysis::Report;
+use second::analysis::{Record, Report};
 use second::machine::State;
 use second::table::{Assign, Rule, Table, Test};
 
@@ -51,6 +51,14 @@ pub fn report_bytes(report: &Report) -> ReportBytes {
     bytes[10..14].copy_from_slice(&[i, j, first, second]);
     bytes[16..].copy_from_slice(&report.marks);
     bytes
+}
+
+/// "the masks watch, reads, writes and precedes of 4 bytes each"
+pub fn row_bytes(row: &[Record]) -> Vec<u8> {
+    row.iter()
+        .flat_map(|r| [r.watch, r.reads, r.writes, r.precedes])
+        .flat_map(|mask| mask.to_le_bytes())
+        .collect()
 }
 
 /// "32 cells of 8"

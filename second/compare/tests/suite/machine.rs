@@ -35,7 +35,7 @@ fn any_state(random: &mut Random, table: &Table) -> State {
 }
 
 /// A table, a state and what to call with, from a seed.
-fn scene(seed: u64) -> (Random, Table, State, Calls) {
+pub fn scene(seed: u64) -> (Random, Table, State, Calls) {
     let mut random = Random::new(seed);
     let table = any_table(&mut random);
     let state = any_state(&mut random, &table);

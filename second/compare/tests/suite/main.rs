@@ -1,5 +1,5 @@
-//! The proved library against the second program, input by input. Every run
-//! makes the same inputs.
+//! The proved library against the second program and the quick program, input
+//! by input. Every run makes the same inputs.
 
 mod analysis;
 mod books;
@@ -9,6 +9,7 @@ mod full;
 mod lengths;
 mod lines;
 mod machine;
+mod quick;
 mod rows;
 mod sums;
 mod tables;

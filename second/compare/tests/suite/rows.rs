@@ -4,7 +4,7 @@
 use crate::tally::Tally;
 use compare::answers::Answers;
 use compare::border::{number_and_place, rows, REPORT_BYTES};
-use compare::layout::report_bytes;
+use compare::layout::{report_bytes, row_bytes};
 use compare::lent::Lent;
 use second::analysis::{records, report_of_records, Record};
 use second::generate::{records as generated, table, Random};
@@ -40,11 +40,7 @@ pub fn compare_rows(answers: Option<&RefCell<Answers>>, tally: &mut Tally, rows:
 /// The report and what is returned, with so many bytes of one more record.
 fn same_report(answers: Option<&RefCell<Answers>>, row: &[Record], cut: usize) -> (u32, u32) {
     let told = report_of_records(row);
-    let mut bytes: Vec<u8> = row
-        .iter()
-        .flat_map(|r| [r.watch, r.reads, r.writes, r.precedes])
-        .flat_map(|mask| mask.to_le_bytes())
-        .collect();
+    let mut bytes = row_bytes(row);
     bytes.extend(vec![0xFF; cut]);
     let lent = Lent::new(&bytes);
     let mut out = Lent::new(&[0xA5; REPORT_BYTES]);
