@@ -11,8 +11,8 @@
  * has no state of its own, so threads may call at the same time on memory of
  * their own. No pointer may be null, not even with length 0. What a call
  * writes may overlap nothing else that it is lent. Beside what is said here
- * no byte is written. A call takes less than 128 kilobytes of stack (measured,
- * where all else here is proved).
+ * no byte is written. A call takes at most 8 kilobytes of stack (measured, where
+ * all else here is proved).
  *
  * Numbers in lent bytes are little-endian; constants and amounts are 64-bit
  * two's complement. A number behind a pointer is the processor's own uint32_t.
