@@ -1,6 +1,5 @@
 // The calls for C and Rust; include/gwaunidor.h describes them for callers.
 ghost use mathlib.Core.Path.{_≡_};
-ghost use Prim.Native.Nat.{_<_};
 ghost use Rattle.table.specs.Check.{checkOf};
 ghost use Rattle.table.specs.Memory.{tableFrom, tableBytes};
 ghost use Rattle.book_read.specs.Read.{readOf};
@@ -18,12 +17,6 @@ ghost use Rattle.editor.specs.Bytes.{rowsIn};
 ghost use Rattle.abi.specs.Rowed.{RowsCross};
 use steps::Moved;
 
-fn wide(x: u8) -> u32
-    ensures { λ r. ⌜ (r ≡ x) × (r < 256) ⌝ }
-{
-    x as u32
-}
-
 // What every call returns: 0 when done, else the number and its place.
 fn code(number: u8, place: u8) -> u32
     ensures { λ r. ⌜ r ≡ codeOf number place ⌝ }
@@ -31,7 +24,7 @@ fn code(number: u8, place: u8) -> u32
     if number == 0 {
         return 0;
     }
-    wide(number) + 256 * wide(place)
+    rule::wide(number) + 256 * rule::wide(place)
 }
 
 // Reads a book into a table.

@@ -8,12 +8,6 @@ ghost use Rattle.lines.specs.Text.{digitsTo, spaced, twoNumbers, members
 ghost use Rattle.lines.specs.Added.{Room, Added, said};
 ghost use Rattle.lines.specs.Lines.{laid};
 
-fn wide(x: u8) -> u32
-    ensures { λ r. ⌜ r ≡ x ⌝ }
-{
-    x as u32
-}
-
 pub fn wider(x: u16) -> u32
     ensures { λ r. ⌜ r ≡ x ⌝ }
 {
@@ -65,8 +59,8 @@ pub fn two_numbers(out: &mut [u8; 512], at: usize, a: u8, b: u8) -> usize
     requires { ⌜ at + 22 ≤ 512 ⌝ }
     ensures { λ r. ⌜ Added (now (out .entry)) at (twoNumbers a b) 22 (now (out .exit)) r ⌝ }
 {
-    let next = number(out, at, wide(a));
-    number(out, next, wide(b))
+    let next = number(out, at, rule::wide(a));
+    number(out, next, rule::wide(b))
 }
 
 // The members of a set upward, each after a space.

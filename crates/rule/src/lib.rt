@@ -39,3 +39,10 @@ pub fn count(x: u8) -> usize
 {
     x as usize
 }
+
+// A number, a place or a count as a number of 32 bits.
+pub fn wide(x: u8) -> u32
+    ensures { λ r. ⌜ (r ≡ x) × (r < 256) ⌝ }
+{
+    x as u32
+}
