@@ -1,7 +1,7 @@
 // A table as the 9,092 bytes where they lie: its masks, and the checks that every call on a table makes first.
 ghost use mathlib.Core.Path.{_≡_};
 ghost use Prim.Native.Nat.{ℕ, _+_, _*_, _≤_, _<_};
-ghost use lib.ListN.{length, getD};
+ghost use lib.ListN.{length, getD, replicate};
 ghost use Rattle.mask.specs.Search.{some};
 ghost use Rattle.mask.specs.Mask.{has};
 ghost use Rattle.graph.specs.Graph.{leads};
@@ -24,10 +24,10 @@ pub fn sizes_bad(n: u8, k: u8) -> bool
     (32 < n) | (k < 1) | (32 < k)
 }
 
-// The first rule with a number, and that number, or 0.
-fn judge(s: &[u8], n: u8, k: u8) -> Answer
-    requires { ⌜ Sizes (now s) n k ⌝ }
-    ensures { λ r. ⌜ r ≡ judged (tableFrom (now (s .entry))) ⌝ }
+// The first rule with a number, and that number, or 0; where there is none, the row of the rules' precedes masks is filled in.
+fn judge(s: &[u8], n: u8, k: u8, row: &mut [u32; 32]) -> Answer
+    requires { ⌜ Sizes (now s) n k × (now row ≡ replicate 32 0) ⌝ }
+    ensures { λ r. ⌜ (r ≡ judged (tableFrom (now (s .entry)))) × (r .number ≡ 0 → now (row .exit) ≡ precedesOf (tableFrom (now (s .entry)))) ⌝ }
 {
     let mut names = [0u64; 64];
     for i in 0..rule::count(n) {
@@ -52,6 +52,7 @@ fn judge(s: &[u8], n: u8, k: u8) -> Answer
         }
         names[2 * i] = low;
         names[2 * i + 1] = high;
+        row[i] = endian::u32_at(s, at + 4);
     }
     Answer {
         number: 0,
@@ -134,7 +135,8 @@ pub fn check(s: &[u8; 9092]) -> Answer
             place: 255,
         };
     }
-    let a = judge(s, n, k);
+    let mut row = [0u32; 32];
+    let a = judge(s, n, k, &mut row);
     if a.number != 0 {
         return a;
     }
@@ -146,7 +148,7 @@ pub fn check(s: &[u8; 9092]) -> Answer
             place: j as u8,
         };
     }
-    if row_cyclic(precedes(s, m), m) {
+    if row_cyclic(row, m) {
         return Answer {
             number: 10,
             place: 255,

@@ -1,5 +1,5 @@
 -- Each return is the first case of `checkOf` whose test held; the tests before it did not.
-use mathlib.Core.Path.{_≡_, sym, ap, ap₂, _∙_}
+use mathlib.Core.Path.{_≡_, refl, sym, ap, ap₂, _∙_}
 use mathlib.Core.Bool.{false, cond}
 use mathlib.Core.List.{List}
 use Prim.Native.Nat.{ℕ, _≤_}
@@ -34,35 +34,37 @@ module _ (c : tie.Else1) where
   sizes = sized (byteAt image 1) (byteAt image 2) sizes-good
 
 judge-requires : tie.Need-judge-requires
-judge-requires c κs =
-    record {
-      long = search needs;
-      rules = search needs;
-      cells = search needs;
-      few-rules = sizes (c .before) .rules;
-      few-cells = sizes (c .before) .cells;
-    }
+judge-requires c κs = (
+  record {
+    long = search needs;
+    rules = search needs;
+    cells = search needs;
+    few-rules = sizes (c .before .before) .rules;
+    few-cells = sizes (c .before .before) .cells;
+  },
+  refl,
+)
 
 returns-2 : tie.Need-returns-2
 unfolding tableFrom
 returns-2 c =
     let j = c .before .before in
-    let d = j .before .before in
-    j .judge .ensures
+    let d = j .before .before .before in
+    j .judge .ensures .0
     ∙ judged-bad (tableFrom (image d)) (sizes-good d)
-    (λ z. c .if2 .taken (ap (λ (a : Answer). a .number) (j .judge .ensures) ∙ z))
+    (λ z. c .if2 .taken (ap (λ (a : Answer). a .number) (j .judge .ensures .0) ∙ z))
 
 -- past the second test no rule has a number
-rules-good : (c : tie.Else2) → let s = image (c .before .before .before .before) in ltb (firstBad (tableFrom s)) (tableFrom s .n) ≡ false
+rules-good : (c : tie.Else2) → let s = image (c .before .before .before .before .before) in ltb (firstBad (tableFrom s)) (tableFrom s .n) ≡ false
 rules-good c =
     let j = c .before .before in
-    judged-good (tableFrom (image (j .before .before))) (ap (λ (a : Answer). a .number) (sym (j .judge .ensures)) ∙ c .if2 .left)
+    judged-good (tableFrom (image (j .before .before .before))) (ap (λ (a : Answer). a .number) (sym (j .judge .ensures .0)) ∙ c .if2 .left)
 
 module _ (c : tie.After-count) where
   few : c .count .result ≤ 32
-  few = omega (arith, c .count .ensures .0, sizes (c .before .before .before .before .before) .rules)
+  few = omega (arith, c .count .ensures .0, sizes (c .before .before .before .before .before .before) .rules)
 
-  counted : c .count .result ≡ byteAt (image (c .before .before .before .before .before)) 1
+  counted : c .count .result ≡ byteAt (image (c .before .before .before .before .before .before)) 1
   counted = c .count .ensures .0
 
 first-slot-requires : tie.Need-first-slot-requires
@@ -70,38 +72,33 @@ first-slot-requires c κs = (search needs, counted (c .before), few (c .before))
 
 -- past two tests: the slots, then the cycle
 rest : (c : tie.After-first-slot)
-    → let s = image (c .before .before .before .before .before .before .before) in
+    → let s = image (c .before .before .before .before .before .before .before .before) in
     checkOf (tableFrom s)
     ≡ cond (ltb (c .first-slot .result) 32) (answer 7 (c .first-slot .result)) (cond (cyclic (tableFrom s)) (answer 10 255) done)
 unfolding checkOf tableFrom
 rest c =
     let e = c .before .before .before in
-    rw (sizes-good (e .before .before .before .before), rules-good e, ← c .first-slot .ensures)
+    rw (sizes-good (e .before .before .before .before .before), rules-good e, ← c .first-slot .ensures)
 
 returns-3 : tie.Need-returns-3
 returns-3 c = sym (rest (c .before) ∙ rw (lt-ltb (c .before .first-slot .result) 32 (c .if3 .taken)))
 
-precedes-requires : tie.Need-precedes-requires
-precedes-requires c κs =
-    let d = c .before .before .before .before in (search needs, counted d, few d)
-
 row-cyclic-requires : tie.Need-row-cyclic-requires
-row-cyclic-requires c κs = few (c .before .before .before .before .before)
+row-cyclic-requires c κs = few (c .before .before .before)
 
-circles : (c : tie.After-row-cyclic)
-    → let s = image (c .before .before .before .before .before .before .before .before .before .before .before) in
-    cyclic (tableFrom s) ≡ c .row-cyclic .result
+-- the row that was filled in on the way
+circles : (c : tie.After-row-cyclic) → let s = image (c .before .before .before .before .before .before .before .before .before .before) in cyclic (tableFrom s) ≡ c .row-cyclic .result
 unfolding cyclic goesBefore tableFrom
 circles c =
+    let e = c .before .before .before .before .before in
     sym (c .row-cyclic .ensures
-    ∙ ap₂ (λ (q : List ℕ) (m : ℕ). some m (λ x. leads q m x x)) (c .before .precedes .ensures)
-    (counted (c .before .before .before .before .before .before)))
+    ∙ ap₂ (λ (q : List ℕ) (m : ℕ). some m (λ x. leads q m x x)) (e .before .before .judge .ensures .1 (e .if2 .left))
+    (counted (c .before .before .before .before)))
 
 last : (c : tie.After-row-cyclic)
-    → let s = image (c .before .before .before .before .before .before .before .before .before .before .before) in
-    checkOf (tableFrom s) ≡ cond (c .row-cyclic .result) (answer 10 255) done
+    → let s = image (c .before .before .before .before .before .before .before .before .before .before) in checkOf (tableFrom s) ≡ cond (c .row-cyclic .result) (answer 10 255) done
 last c =
-    let d = c .before .before .before in
+    let d = c .before in
     rest (d .before) ∙ rw (le-ltb (d .before .first-slot .result) 32 (d .if3 .left), circles c)
 
 returns-4 : tie.Need-returns-4
@@ -124,7 +121,6 @@ check-spec =
     first-slot-requires
     (λ c. search needs)
     returns-3
-    precedes-requires
     row-cyclic-requires
     returns-4
     returns-5)

@@ -1,4 +1,4 @@
--- No rule passed has a number, and the row holds their names.
+-- No rule passed has a number, and the rows hold their names and their precedes masks.
 use mathlib.Core.Path.{_≡_, sym, ap, ap₂, _∙_, subst}
 use mathlib.Core.Bool.{Bool}
 use mathlib.Core.List.{List}
@@ -8,10 +8,13 @@ use lib.ListN.{length, set}
 use Rattle.mask.specs.Loops.{Passed, passed-none, passed-more}
 use Rattle.endian.specs.Little.{byteAt}
 use Rattle.endian.specs.Stands.{Bytes}
+use Rattle.rule.specs.declared.Rule.{Rule}
+use Rattle.rule.specs.Fill.{filled, filled-more}
 use Rattle.rule.specs.Numbers.{notZero, ruleNumber}
 use Rattle.rule_check.specs.With.{numberWith}
 use Rattle.rule_check.specs.Names.{takenIn}
 use Rattle.rule_check.specs.NamesLaws.{Named, named-none, named-more, number-named}
+use Rattle.table.specs.Table.{ruleAt}
 use Rattle.table.specs.Check.{numberAt}
 use Rattle.table.specs.Memory.{ruleFrom, tableFrom}
 use Rattle.table.specs.ImageLaws.{number-from, rule-from, from-long, from-bytes, low-word, high-word, slot-lies, judged-here, judged-none}
@@ -20,15 +23,16 @@ use Rattle.table.proofs.judge.Statement.{statement}
 use Rattle.table.proofs.judge.Tie as tie
 
 abbrev Inv-loop : tie.InvT-loop
-Inv-loop s n k names₀ i₀ i-end names i =
+Inv-loop s n k row₀ names₀ i₀ i-end row names i =
     (i ≤ i-end) × (i-end ≡ n) × (length names ≡ 64) × Passed (λ x. notZero (numberAt (tableFrom s) x)) i
     × Named names (tableFrom s .rules) i
+    × (row ≡ filled 32 0 (λ x. ruleAt (tableFrom s) x .precedes) i)
 
 abbrev μ-loop : tie.MeasureT-loop
-μ-loop s n k names₀ i₀ i-end names i = i-end - i
+μ-loop s n k row₀ names₀ i₀ i-end row names i = i-end - i
 
 loop-holds : tie.Need-loop-holds Inv-loop μ-loop
-loop-holds c = (search needs, c .count .ensures .0, search needs, passed-none, named-none _ _)
+loop-holds c = (search needs, c .count .ensures .0, search needs, passed-none, named-none _ _, c .before .before .pre .1)
 
 subst₂ : (P : ℕ → ℕ → Type 0) {x x′ y y′ : ℕ} → x ≡ x′ → y ≡ y′ → P x y → P x′ y′
 subst₂ P {x} {x′} {y} {y′} e f p = subst (λ (v : ℕ). P x′ v) f (subst (λ (v : ℕ). P v y) e p)
@@ -44,15 +48,15 @@ module _ (c : tie.In-loop Inv-loop μ-loop) where
   bytes = record { small = λ j. omega (arith, c .before .before .before .shared-slice-known .given j) }
 
   small : c .before .loop .i < 32
-  small = omega (arith, c .loop-test .taken, c .before .loop .inv .1, start .pre .few-rules)
+  small = omega (arith, c .loop-test .taken, c .before .loop .inv .1, start .pre .0 .few-rules)
 
   low : c .before .loop .i < byteAt image 1
-  low = omega (arith, c .loop-test .taken, c .before .loop .inv .1, start .pre .rules)
+  low = omega (arith, c .loop-test .taken, c .before .loop .inv .1, start .pre .0 .rules)
 
 number-in-requires : tie.Need-number-in-requires Inv-loop μ-loop
 number-in-requires c κs =
     let d = c .before .before .before .before in
-    (slot-lies (image d) (d .before .loop .i) (omega (arith, small d, start d .pre .long)), start d .pre .few-rules, start d .pre .few-cells)
+    (slot-lies (image d) (d .before .loop .i) (omega (arith, small d, start d .pre .0 .long)), start d .pre .0 .few-rules, start d .pre .0 .few-cells)
 
 -- the number that was given is the rule's, after the rules before it
 module _ (c : tie.After-number-in Inv-loop μ-loop) where
@@ -81,19 +85,22 @@ module _ (c : tie.After-number-in Inv-loop μ-loop) where
       let s = image turn in
       let i = turn .before .loop .i in
       number-from s i (small turn)
-      ∙ ap₂ (λ (n k : ℕ). ruleNumber n k (tableFrom s .rules) i (ruleFrom s i)) (sym (start turn .pre .rules)) (sym (start turn .pre .cells))
+      ∙ ap₂ (λ (n k : ℕ). ruleNumber n k (tableFrom s .rules) i (ruleFrom s i)) (sym (start turn .pre .0 .rules)) (sym (start turn .pre .0 .cells))
       ∙ sym number
 
 returns : tie.Need-returns Inv-loop μ-loop
 unfolding tableFrom
 returns c =
     let w = c .before in
-    let d = turn w in
-    sym (judged-here (tableFrom (image d)) (d .before .loop .i) (d .before .loop .inv .3) (w .number-in .result) (low d) (at-number w) (c .if1 .taken))
+    let d = turn w in (
+      sym (judged-here (tableFrom (image d)) (d .before .loop .i) (d .before .loop .inv .3) (w .number-in .result) (low d) (at-number w) (c .if1 .taken)),
+      λ e. absurd (c .if1 .taken e),
+    )
 
 loop-again : tie.Need-loop-again Inv-loop μ-loop
 loop-again c =
-    let w = c .before in
+    let b = c .before in
+    let w = b .before in
     let h = w .before .before .before in
     let l = h .before in
     let d = turn w in
@@ -103,19 +110,26 @@ loop-again c =
       omega (arith, d .loop-test .taken),
       a .loop .inv .1,
       search needs,
-      passed-more (a .loop .inv .3) (ap notZero (at-number w ∙ c .if1 .left)),
+      passed-more (a .loop .inv .3) (ap notZero (at-number w ∙ b .if1 .left)),
       subst₂ (λ (x y : ℕ). Named (set (set (a .loop .names) (2 * i) x) (2 * i + 1) y) (tableFrom s .rules) (i + 1))
           (sym (l .u64-at .ensures ∙ low-word s i)) (sym (h .u64-at2 .ensures ∙ high-word s i))
           (named-more (start d .args .n) (start d .args .k) (a .loop .names) (tableFrom s .rules) i (ruleFrom s i)
           (a .loop .inv .4) (a .loop .inv .2) (small d) (rule-from s i (small d)) (from-bytes s (bytes d) i) (from-long s i)
-          (sym (number w) ∙ c .if1 .left)),
+          (sym (number w) ∙ b .if1 .left)),
+      rw (a .loop .inv .5, c .u32-at .ensures ∙ ap (λ (r : Rule). r .precedes) (sym (rule-from s i (small d))))
+          (filled-more 32 0 (λ x. ruleAt (tableFrom s) x .precedes) i (small d)),
     )
 
 returns-2 : tie.Need-returns-2 Inv-loop μ-loop
 unfolding tableFrom
 returns-2 c =
-    let s = c .before .before .before .before .args .s .now in
-    sym (judged-none (tableFrom s) (c .before .loop .i) (c .before .loop .inv .3) (omega (arith, c .before .before .before .before .pre .rules)))
+    let z = c .before .before .before .before in
+    let s = z .args .s .now in
+    let l = c .before .loop in
+    let e : l .i ≡ byteAt s 1 = omega (arith, z .pre .0 .rules) in (
+      sym (judged-none (tableFrom s) (l .i) (l .inv .3) (omega (arith, z .pre .0 .rules))),
+      λ _. l .inv .5 ∙ ap (filled 32 0 (λ x. ruleAt (tableFrom s) x .precedes)) e,
+    )
 
 pub judge-spec : {M : Type 1} → statement M
 judge-spec =
@@ -128,9 +142,9 @@ judge-spec =
     (λ c. omega (arith, small c))
     (λ c. omega (arith, small c))
     (λ c. omega (arith, small c))
-    (λ c κs. omega (arith, small c, start c .pre .long))
+    (λ c κs. omega (arith, small c, start c .pre .0 .long))
     (λ c. omega (arith, small (c .before)))
-    (λ c κs. omega (arith, small (c .before), start (c .before) .pre .long))
+    (λ c κs. omega (arith, small (c .before), start (c .before) .pre .0 .long))
     (λ c κs. omega (arith, small (c .before .before .before)))
     number-in-requires
     (λ c. omega (arith, small (turn (c .before))))
@@ -142,6 +156,10 @@ judge-spec =
     (λ c. omega (arith, small (turn (c .before))))
     (λ c. omega (arith, small (turn (c .before))))
     (λ c. omega (arith, small (turn (c .before))))
+    (λ c. omega (arith, small (turn (c .before))))
+    (λ c κs. omega (arith, small (turn (c .before)), start (turn (c .before)) .pre .0 .long))
+    (λ c. omega (arith, small (turn (c .before .before))))
+    (λ c. omega (arith, small (turn (c .before .before))))
     (λ c. search needs)
     (λ c. search needs)
     loop-again
