@@ -1,4 +1,4 @@
-//! Links the proved library, libabi.a, and tells where `answers` and `watched`
+//! Links the proved library, libgwaunidor.a, and tells where `answers` and `watched`
 //! are: in the folder that GWAUNIDOR_LIB_DIR names, else in target/border at the
 //! repository's root, where the script `archive` leaves them.
 
@@ -12,13 +12,13 @@ fn main() {
         Some(named) => PathBuf::from(named),
         None => PathBuf::from(package).join("../../target/border"),
     };
-    let archive = folder.join("libabi.a");
+    let archive = folder.join("libgwaunidor.a");
     println!("cargo:rerun-if-changed={}", archive.display());
     if !archive.is_file() {
         panic!("no {}: run second/compare/archive first", archive.display());
     }
     println!("cargo:rustc-link-search=native={}", folder.display());
-    println!("cargo:rustc-link-lib=static=abi");
+    println!("cargo:rustc-link-lib=static=gwaunidor");
     let answers = folder.join("answers");
     println!("cargo:rustc-env=GWAUNIDOR_ANSWERS={}", answers.display());
     let watched = folder.join("watched");

@@ -1,6 +1,4 @@
--- What the contracts of `analysis` cite: `Masks` takes the four rows from a table, `Says` is the promise of the two calls.
-pub mod Masks
-pub mod MasksLaws
-pub mod Sets
+-- What the contracts of `analysis` cite; `AnalysisInner` is for inner functions alone.
+pub mod AnalysisInner
 pub mod Says
-pub mod SaysLaws
+pub mod TableMasks

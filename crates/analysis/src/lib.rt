@@ -3,43 +3,43 @@ ghost use mathlib.Core.Path.{_≡_};
 ghost use lib.ListN.{length};
 ghost use Rattle.table.specs.Check.{Sound};
 ghost use Rattle.table.specs.Memory.{tableFrom};
-ghost use Rattle.judging.specs.Report.{Reported};
-ghost use Rattle.judging.specs.Summary.{reportIn};
-ghost use Rattle.judging.specs.Marking.{zeros};
-ghost use Rattle.judging.specs.Bound.{Bounded};
-ghost use Rattle.analysis.specs.Masks.{masksOf, Lies};
+ghost use Rattle.analysis_masks.specs.Report.{Reported};
+ghost use Rattle.analysis_masks.specs.AnalysisMasksInner.{reportIn, noMarks};
+ghost use Rattle.analysis_masks.specs.Bound.{Bounded};
+ghost use Rattle.analysis.specs.TableMasks.{masksOf};
+ghost use Rattle.analysis.specs.AnalysisInner.{SoundBytes};
 ghost use Rattle.analysis.specs.Says.{refusedReport, ReportSays, BoundSays};
-use judging::Bound;
-use judging::Report;
-use judging::Summary;
+use analysis_masks::Bound;
+use analysis_masks::Report;
+use analysis_masks::Summary;
 
 // The cells that each rule of a sound table reads, as a row of masks; 0 past the last rule.
 fn reads(s: &[u8], n: usize) -> [u32; 32]
-    requires { ⌜ Lies (now s) n ⌝ }
+    requires { ⌜ SoundBytes (now s) n ⌝ }
     ensures { λ q. ⌜ q ≡ masksOf (tableFrom (now (s .entry))) .reads ⌝ }
 {
     let mut q = [0u32; 32];
     for i in 0..n {
-        q[i] = uses::reads(s, 4 + 284 * i, 8, 8);
+        q[i] = rule_uses::reads(s, 4 + 284 * i, 8, 8);
     }
     q
 }
 
 // The cells that each rule writes.
 fn writes(s: &[u8], n: usize) -> [u32; 32]
-    requires { ⌜ Lies (now s) n ⌝ }
+    requires { ⌜ SoundBytes (now s) n ⌝ }
     ensures { λ q. ⌜ q ≡ masksOf (tableFrom (now (s .entry))) .writes ⌝ }
 {
     let mut q = [0u32; 32];
     for i in 0..n {
-        q[i] = uses::writes(s, 4 + 284 * i, 8, 8);
+        q[i] = rule_uses::writes(s, 4 + 284 * i, 8, 8);
     }
     q
 }
 
 // The report on a sound table: its marks are filled in where all were 0, the rest is given back.
 fn judged(s: &[u8], marks: &mut [u8; 496]) -> Summary
-    requires { ⌜ (length (now s) ≡ 9092) × Sound (tableFrom (now s)) × (now marks ≡ zeros) ⌝ }
+    requires { ⌜ (length (now s) ≡ 9092) × Sound (tableFrom (now s)) × (now marks ≡ noMarks) ⌝ }
     ensures { λ v. ⌜ Reported (masksOf (tableFrom (now (s .entry)))) (reportIn v (now (marks .exit))) ⌝ }
 {
     let n = rule::count(s[1]);
@@ -47,7 +47,7 @@ fn judged(s: &[u8], marks: &mut [u8; 496]) -> Summary
     let read = reads(s, n);
     let written = writes(s, n);
     let precedes = table::precedes(s, n);
-    judging::rows::judged(n, &watch, &read, &written, &precedes, marks)
+    analysis_masks::rows::judged(n, &watch, &read, &written, &precedes, marks)
 }
 
 // The step bound of a set of rules of a sound table.
@@ -58,7 +58,7 @@ fn bounded(s: &[u8], set: u32) -> Bound
     let n = rule::count(s[1]);
     let watch = table::watches(s, n);
     let written = writes(s, n);
-    judging::rows::bound(n, &watch, &written, set)
+    analysis_masks::rows::bound(n, &watch, &written, set)
 }
 
 // A refused report.
@@ -88,7 +88,7 @@ pub fn report(table: &[u8; 9092]) -> Report
     }
     let mut marks = [0u8; 496];
     let v = judged(table, &mut marks);
-    judging::whole(v, &marks)
+    analysis_masks::whole(v, &marks)
 }
 
 pub fn bound(table: &[u8; 9092], set: u32) -> Bound

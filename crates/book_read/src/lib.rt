@@ -3,23 +3,28 @@ ghost use mathlib.Core.Path.{_≡_};
 ghost use mathlib.Core.List.{_++_};
 ghost use Prim.Native.Nat.{_+_, _-_, _*_, _≤_, _<_};
 ghost use lib.ListN.{length, take, drop, replicate};
-ghost use Rattle.endian.specs.Little.{byteAt};
-ghost use Rattle.endian.specs.Put.{put};
-ghost use Rattle.parts.specs.Parts.{Room};
-ghost use Rattle.pieces.specs.Pieces.{slotBytes};
-ghost use Rattle.rule_check.specs.With.{numberWith};
+ghost use Rattle.bytes.specs.Put.{put};
+ghost use Rattle.rule_write.specs.Pieces.{slotBytes};
+ghost use Rattle.rule_check.specs.RuleCheckInner.{numberWith};
 ghost use Rattle.table.specs.Check.{answer};
 ghost use Rattle.table.specs.Memory.{tableBytes};
-ghost use Rattle.book_read.specs.Read.{nOf, kOf, startOf, lengthOf, contentsBad, bodyBad, ruleIn, tableIn, bodiesOf, readOf};
-ghost use Rattle.book_read.specs.Inside.{Inside};
-ghost use Rattle.book_read.specs.ReadLaws.{bodyIn};
-ghost use Rattle.book_read.specs.Spread.{told, Body, Bodies, Spread};
+ghost use Rattle.book_read.specs.Read.{startOf, lengthOf, contentsBad, ruleIn, tableIn, readOf};
+ghost use Rattle.book_read.specs.Spread.{told, Spread};
+ghost use Rattle.book_read.specs.BookReadInner.{nOf, kOf, Inside, bodyBad, Stretch, GoodBodies, bodiesOf};
 use table::Answer;
 
 fn wide(x: u16) -> usize
     ensures { λ r. ⌜ (r ≡ x) × (r < 65536) ⌝ }
 {
     x as usize
+}
+
+// Where body i starts.
+fn start(s: &[u8], i: usize) -> usize
+    requires { ⌜ (i < 32) × (8 + 4 * i ≤ length (now s)) ⌝ }
+    ensures { λ r. ⌜ (r ≡ startOf (now (s .entry)) i) × (r < 65536) ⌝ }
+{
+    wide(bytes::u16_at(s, 4 + 4 * i))
 }
 
 // 4: whether the contents do not fit the book.
@@ -33,9 +38,9 @@ fn contents_bad(s: &[u8], n: usize) -> bool
     let mut end: usize = 4 + 4 * n;
     let mut bad = false;
     for i in 0..n {
-        let start = wide(endian::u16_at(s, 4 + 4 * i));
+        let start = wide(bytes::u16_at(s, 4 + 4 * i));
         bad = (start != end) | bad;
-        end = end + wide(endian::u16_at(s, 6 + 4 * i));
+        end = end + wide(bytes::u16_at(s, 6 + 4 * i));
     }
     bad | (end != s.len())
 }
@@ -45,8 +50,8 @@ fn body_bad(s: &[u8], i: usize) -> bool
     requires { ⌜ (i < 32) × (8 + 4 * i ≤ length (now s)) × (startOf (now s) i + lengthOf (now s) i ≤ length (now s)) ⌝ }
     ensures { λ r. ⌜ r ≡ bodyBad (now (s .entry)) i ⌝ }
 {
-    let at = wide(endian::u16_at(s, 4 + 4 * i));
-    let len = wide(endian::u16_at(s, 6 + 4 * i));
+    let at = start(s, i);
+    let len = wide(bytes::u16_at(s, 6 + 4 * i));
     if len < 12 {
         return true;
     }
@@ -66,33 +71,22 @@ fn refused(number: u8, place: u8) -> Answer
     }
 }
 
-// The name of body i.
-fn name_of(s: &[u8], i: usize) -> [u8; 16]
-    requires { ⌜ Body (now s) i ⌝ }
-    ensures { λ r. ⌜ r ≡ bodyIn (now (s .entry)) i .name ⌝ }
+// The name of the body at `at`.
+fn name_of(s: &[u8], at: usize) -> [u8; 16]
+    requires { ⌜ Stretch (now s) at ⌝ }
+    ensures { λ r. ⌜ r ≡ ruleIn (now (s .entry)) at .name ⌝ }
 {
-    let at = wide(endian::u16_at(s, 4 + 4 * i));
     let t = rule::count(s[at + 8]);
     let a = rule::count(s[at + 9]);
     let m = rule::count(s[at + 10]);
-    parts::read_name(s, at + 12 + 12 * t + 20 * a, m)
-}
-
-// Its precedes mask.
-fn precedes_of(s: &[u8], i: usize) -> u32
-    requires { ⌜ Body (now s) i ⌝ }
-    ensures { λ r. ⌜ r ≡ bodyIn (now (s .entry)) i .precedes ⌝ }
-{
-    let at = wide(endian::u16_at(s, 4 + 4 * i));
-    endian::u32_at(s, at + 4)
+    rule_read::read_name(s, at + 12 + 12 * t + 20 * a, m)
 }
 
 // Its number, where it is known whether an earlier rule has its name.
-fn number_of(s: &[u8], i: usize, n: u8, k: u8, taken: bool) -> u8
-    requires { ⌜ Body (now s) i × (n ≤ 32) × (k ≤ 32) ⌝ }
-    ensures { λ x. ⌜ x ≡ numberWith n k taken (bodyIn (now (s .entry)) i) ⌝ }
+fn number_of(s: &[u8], at: usize, n: u8, k: u8, taken: bool) -> u8
+    requires { ⌜ Stretch (now s) at × (n ≤ 32) × (k ≤ 32) ⌝ }
+    ensures { λ x. ⌜ x ≡ numberWith n k taken (ruleIn (now (s .entry)) at) ⌝ }
 {
-    let at = wide(endian::u16_at(s, 4 + 4 * i));
     let t = rule::count(s[at + 8]);
     let a = rule::count(s[at + 9]);
     let m = rule::count(s[at + 10]);
@@ -110,16 +104,17 @@ fn judge_bodies(s: &[u8], n: u8, k: u8) -> Answer
         if body_bad(s, i) {
             return refused(5, i as u8);
         }
-        let name = name_of(s, i);
-        let low = endian::u64_at(&name, 0);
-        let high = endian::u64_at(&name, 8);
-        let c = number_of(s, i, n, k, rule_check::taken(&names, i, low, high));
+        let at = start(s, i);
+        let name = name_of(s, at);
+        let low = bytes::u64_at(&name, 0);
+        let high = bytes::u64_at(&name, 8);
+        let c = number_of(s, at, n, k, rule_check::taken(&names, i, low, high));
         if c != 0 {
             return refused(c, i as u8);
         }
         names[2 * i] = low;
         names[2 * i + 1] = high;
-        row[i] = precedes_of(s, i);
+        row[i] = bytes::u32_at(s, at + 4);
     }
     if table::row_cyclic(row, rule::count(n)) {
         return refused(10, 255);
@@ -159,13 +154,13 @@ fn put_part(out: &mut [u8], to: usize, s: &[u8], from: usize, n: usize, room: us
     ensures { λ _. ⌜ now (out .exit) ≡ put (now (out .entry)) to (take n (drop from (now (s .entry))) ++ replicate (room - n) 0) ⌝ }
 {
     let end = from + n;
-    endian::put_bytes(out, to, &s[from..end]);
-    endian::put_zeros(out, to + n, room - n);
+    bytes::put_bytes(out, to, &s[from..end]);
+    bytes::put_zeros(out, to + n, room - n);
 }
 
 // The slot of the body whose head is at `from`.
 fn put_body(out: &mut [u8], to: usize, s: &[u8], from: usize)
-    requires { ⌜ Room (now s) from (byteAt (now s) (from + 8)) (byteAt (now s) (from + 9)) (byteAt (now s) (from + 10)) × (to + 284 ≤ length (now out)) ⌝ }
+    requires { ⌜ Stretch (now s) from × (to + 284 ≤ length (now out)) ⌝ }
     ensures { λ _. ⌜ now (out .exit) ≡ put (now (out .entry)) to (slotBytes (ruleIn (now (s .entry)) from)) ⌝ }
 {
     let t = rule::count(s[from + 8]);
@@ -178,15 +173,15 @@ fn put_body(out: &mut [u8], to: usize, s: &[u8], from: usize)
 
 // The table of a book that was read.
 fn spread(s: &[u8], out: &mut [u8; 9092])
-    requires { ⌜ Bodies (now s) ⌝ }
+    requires { ⌜ GoodBodies (now s) ⌝ }
     ensures { λ _. ⌜ now (out .exit) ≡ tableBytes (tableIn (now (s .entry))) ⌝ }
 {
     let n = rule::count(s[1]);
-    endian::put_4(out, 0, 0, s[1], s[2], 0);
+    bytes::put_4(out, 0, 0, s[1], s[2], 0);
     for i in 0..n {
-        put_body(out, 4 + 284 * i, s, wide(endian::u16_at(s, 4 + 4 * i)));
+        put_body(out, 4 + 284 * i, s, start(s, i));
     }
-    endian::put_zeros(out, 4 + 284 * n, 284 * (32 - n));
+    bytes::put_zeros(out, 4 + 284 * n, 284 * (32 - n));
 }
 
 // Reads a book into a table; a refused read leaves zeros.
@@ -195,7 +190,7 @@ pub fn read(book: &[u8], table: &mut [u8; 9092]) -> Answer
 {
     let a = judge(book);
     if a.number != 0 {
-        endian::put_zeros(table, 0, 9092);
+        bytes::put_zeros(table, 0, 9092);
         return a;
     }
     spread(book, table);

@@ -1,7 +1,4 @@
--- What the contracts of `book_write` cite: `Book` are a table's bytes, `Write` is what a write gives and leaves; the others are
--- their laws.
+-- What the contracts of `book_write` cite; `BookWriteInner` is for inner functions alone.
 pub mod Book
+pub mod BookWriteInner
 pub mod Write
-pub mod BookLaws
-pub mod BodyLaws
-pub mod WriteLaws

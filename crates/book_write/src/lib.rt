@@ -3,13 +3,14 @@ ghost use mathlib.Core.Path.{_≡_};
 ghost use mathlib.Core.List.{_++_};
 ghost use Prim.Native.Nat.{_+_, _*_, _≤_, _<_};
 ghost use lib.ListN.{length, take, drop};
-ghost use Rattle.endian.specs.Put.{put};
-ghost use Rattle.endian.specs.Bytes.{u16Bytes};
-ghost use Rattle.pieces.specs.Pieces.{bodyBytes};
-ghost use Rattle.rule.specs.NumbersLaws.{Counted};
-ghost use Rattle.table.specs.Memory.{ruleFrom, tableFrom};
-ghost use Rattle.book_write.specs.Book.{bodySize, startAt, contentsBytes, bodiesBytes};
-ghost use Rattle.book_write.specs.BookLaws.{Ready};
+ghost use Rattle.bytes.specs.Put.{put};
+ghost use Rattle.bytes.specs.Bytes.{u16Bytes};
+ghost use Rattle.rule_write.specs.Pieces.{bodyBytes};
+ghost use Rattle.rule.specs.RuleInner.{Counted};
+ghost use Rattle.table.specs.Memory.{tableFrom};
+ghost use Rattle.table.specs.TableInner.{ruleFrom};
+ghost use Rattle.table.specs.BodyStarts.{bodySize, startAt};
+ghost use Rattle.book_write.specs.BookWriteInner.{Ready, sizesOf, contentsBytes, bodiesBytes};
 ghost use Rattle.book_write.specs.Write.{writeOf, sizeOf};
 
 pub struct Written {
@@ -30,7 +31,7 @@ fn body_size(s: &[u8], i: usize) -> usize
 // Where the last of n bodies ends.
 fn end_of(s: &[u8], n: usize) -> usize
     requires { ⌜ (n ≤ 32) × (length (now s) ≡ 9092) ⌝ }
-    ensures { λ r. ⌜ r ≡ startAt n (tableFrom (now (s .entry)) .rules) n ⌝ }
+    ensures { λ r. ⌜ r ≡ startAt n (sizesOf (tableFrom (now (s .entry)) .rules)) n ⌝ }
 {
     let mut end: usize = 4 + 4 * n;
     for i in 0..n {
@@ -43,8 +44,8 @@ fn write_entry(out: &mut [u8], at: usize, start: usize, size: usize)
     requires { ⌜ (start < 65536) × (size < 65536) × (at + 4 ≤ length (now out)) ⌝ }
     ensures { λ _. ⌜ now (out .exit) ≡ put (now (out .entry)) at (u16Bytes start ++ u16Bytes size) ⌝ }
 {
-    endian::put_u16(out, at, start as u16);
-    endian::put_u16(out, at + 2, size as u16);
+    bytes::put_u16(out, at, start as u16);
+    bytes::put_u16(out, at + 2, size as u16);
 }
 
 fn write_contents(out: &mut [u8], s: &[u8], n: usize)
@@ -65,7 +66,7 @@ fn write_part(out: &mut [u8], at: usize, s: &[u8], from: usize, n: usize)
     ensures { λ _. ⌜ now (out .exit) ≡ put (now (out .entry)) at (take n (drop from (now (s .entry)))) ⌝ }
 {
     let end = from + n;
-    endian::put_bytes(out, at, &s[from..end]);
+    bytes::put_bytes(out, at, &s[from..end]);
 }
 
 // The body of rule i: the beginnings of its slot's three parts, one after another.
@@ -83,7 +84,7 @@ fn write_body(out: &mut [u8], at: usize, s: &[u8], i: usize)
 }
 
 fn write_bodies(out: &mut [u8], s: &[u8], n: usize)
-    requires { ⌜ Ready n (tableFrom (now s) .rules) × (length (now s) ≡ 9092) × (startAt n (tableFrom (now s) .rules) n ≤ length (now out)) ⌝ }
+    requires { ⌜ Ready n (tableFrom (now s) .rules) × (length (now s) ≡ 9092) × (startAt n (sizesOf (tableFrom (now s) .rules)) n ≤ length (now out)) ⌝ }
     ensures { λ _. ⌜ now (out .exit) ≡ put (now (out .entry)) (4 + 4 * n) (bodiesBytes (tableFrom (now (s .entry)) .rules) n) ⌝ }
 {
     let mut at: usize = 4 + 4 * n;
@@ -132,7 +133,7 @@ pub fn write(table: &[u8; 9092], out: &mut [u8]) -> Written
             length: 0,
         };
     }
-    endian::put_4(out, 0, 1, table[1], table[2], 0);
+    bytes::put_4(out, 0, 1, table[1], table[2], 0);
     write_contents(out, table, n);
     write_bodies(out, table, n);
     Written {

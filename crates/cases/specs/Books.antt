@@ -1,4 +1,4 @@
--- The books that the cases speak of, byte by byte, as they stand in books/. Assumes nothing.
+-- The books that the cases speak of, byte by byte, as they stand in books/.
 use mathlib.Core.List.{List, [], _∷_, _++_}
 use Prim.Native.Nat.{ℕ}
 use lib.ListN.{replicate}

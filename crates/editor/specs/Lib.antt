@@ -1,7 +1,5 @@
--- What the contracts of `editor` cite: `Rows` has the definitions, `Copying` how the arrays are filled, the others laws.
+-- What the contracts of `editor` cite; `EditorInner` is for inner functions alone.
+pub mod EditorInner
+pub mod OwnRows
 pub mod Rows
-pub mod Copying
-pub mod RowsLaws
-pub mod CopyingLaws
-pub mod Table
-pub mod Bytes
+pub mod RowsIn

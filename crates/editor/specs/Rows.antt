@@ -1,53 +1,37 @@
 -- The report of a row of records: its four rows of masks, its numbers 3, 6 and 10, and the analysis's own report.
--- Assumes nothing.
-use mathlib.Core.Path.{_≡_}
-use mathlib.Core.Bool.{Bool, cond}
-use mathlib.Core.List.{List, []}
-use Prim.Native.Nat.{ℕ, _^_, _≤_, _<_}
+use mathlib.Core.Bool.{Bool}
+use mathlib.Core.List.{List, [], _∷_}
+use Prim.Native.Nat.{ℕ}
 use lib.Dec.{ltb}
 use lib.ListN.{getD, length}
-use Rattle.mask.specs.Search.{some, least}
+use Rattle.mask.specs.First.{firstOf}
+use Rattle.mask.specs.Search.{least}
 use Rattle.mask.specs.Mask.{beyond}
-use Rattle.graph.specs.Graph.{leads}
+use Rattle.graph.specs.Graph.{cyclic}
 use Rattle.rule.specs.Fill.{filled}
 use Rattle.table.specs.declared.Answer.{Answer}
-use Rattle.table.specs.Check.{answer, done}
-use Rattle.pairs.specs.declared.Masks.{Masks}
-use Rattle.pairs.specs.Lent.{masksIn}
-use Rattle.judging.specs.declared.Report.{Report}
-use Rattle.judging.specs.Cleared.{Past}
-use Rattle.judging.specs.Report.{Reported}
+use Rattle.table.specs.Check.{answer, done, Checked}
+use Rattle.analysis_pairs.specs.declared.Masks.{Masks}
+use Rattle.analysis_masks.specs.declared.Report.{Report}
+use Rattle.analysis_masks.specs.Report.{Reported}
 use Rattle.analysis.specs.Says.{refusedReport}
 use Rattle.editor.specs.declared.Record.{Record}
 
 abbrev pub noRecord : Record
 noRecord = record { watch = 0; reads = 0; writes = 0; precedes = 0 }
 
--- record i of a row
-abbrev pub recordAt : List Record → ℕ → Record
-recordAt rs i = getD rs i noRecord
+-- one mask of each of the first n records
+abbrev pub row : List Record → ℕ → (Record → ℕ) → List ℕ
+row rs n mask = filled 32 0 (λ i. mask (getD rs i noRecord)) n
 
--- the first n records as masks
 abbrev pub firstMasks : List Record → ℕ → Masks
 firstMasks rs n =
-    record {
-      n = n;
-      watch = filled 32 0 (λ i. recordAt rs i .watch) n;
-      reads = filled 32 0 (λ i. recordAt rs i .reads) n;
-      writes = filled 32 0 (λ i. recordAt rs i .writes) n;
-      precedes = filled 32 0 (λ i. recordAt rs i .precedes) n;
-    }
+    let of = row rs n in
+    record { n = n; watch = of (λ r. r .watch); reads = of (λ r. r .reads); writes = of (λ r. r .writes); precedes = of (λ r. r .precedes) }
 
 -- "four masks a rule (watch, reads, writes, precedes)": those of every record
 abbrev pub rowMasks : List Record → Masks
 rowMasks rs = firstMasks rs (length rs)
-
--- nothing past the last record, where the records are not too many
-pub record Padded (m : Masks) : Type 0 where
-  pub watch : m .n ≤ 32 → Past (m .n) (m .watch)
-  pub reads : m .n ≤ 32 → Past (m .n) (m .reads)
-  pub writes : m .n ≤ 32 → Past (m .n) (m .writes)
-  pub precedes : m .n ≤ 32 → Past (m .n) (m .precedes)
 
 -- ---- the numbers
 
@@ -55,33 +39,19 @@ pub record Padded (m : Masks) : Type 0 where
 unfoldable pub firstBeyond : Masks → ℕ
 firstBeyond m = least (m .n) (λ i. beyond (getD (m .precedes) i 0) (m .n))
 
--- the masks of the records before it name records of the row only
-pub record FirstBeyond (m : Masks) (r : ℕ) : Type 0 where
-  pub is : r ≡ firstBeyond m
-  pub named : (i : ℕ) → i < r → getD (m .precedes) i 0 < 2 ^ m .n
-
--- 10: "the priorities have a cycle (a rule naming itself too)"
-unfoldable pub cyclic : Masks → Bool
-cyclic m = some (m .n) (λ r. leads (m .precedes) (m .n) r r)
-
 -- "there only 3 (over 32 records), 6 (a precedes bit beyond the row) and 10 occur"
+abbrev pub rowAnswers : Masks → List (Bool × Answer)
+rowAnswers m =
+    (ltb 32 (m .n), answer 3 255)
+    ∷ (ltb (firstBeyond m) (m .n), answer 6 (firstBeyond m))
+    ∷ (cyclic (m .n) (m .precedes), answer 10 255)
+    ∷ []
+
 unfoldable pub checkRows : Masks → Answer
-checkRows m =
-    cond (ltb 32 (m .n)) (answer 3 255)
-    (cond (ltb (firstBeyond m) (m .n)) (answer 6 (firstBeyond m))
-    (cond (cyclic m) (answer 10 255) done))
-
-pub record Checked (m : Masks) (a : Answer) : Type 0 where
-  pub is : a ≡ checkRows m
-  pub named : a .number ≡ 0 → (i : ℕ) → i < m .n → getD (m .precedes) i 0 < 2 ^ m .n
-
--- a row of which no more is known than the precedes masks: all that the numbers ask for
-abbrev pub preceding : ℕ → List ℕ → Masks
-preceding n precedes = masksIn n [] [] [] precedes
+checkRows m = firstOf done (rowAnswers m)
 
 -- ---- the report
 
 -- refused by the first number that applies; else "the same report" as of a table's masks
-pub record RowsSay (m : Masks) (r : Report) : Type 0 where
-  pub refused : (checkRows m .number ≡ 0 → ⊥) → r ≡ refusedReport (checkRows m .number) (checkRows m .place)
-  pub done : checkRows m .number ≡ 0 → Reported m r
+abbrev pub RowsSay : Masks → Report → Type 0
+RowsSay m = Checked (checkRows m) refusedReport (Reported m)

@@ -1,13 +1,12 @@
 // The numbers 3, 6 and 10 of a row of n records: they ask for its precedes masks alone.
-ghost use mathlib.Core.Path.{_≡_};
 ghost use Prim.Native.Nat.{_≤_};
-ghost use Rattle.editor.specs.Rows.{preceding, FirstBeyond, Checked};
+ghost use Rattle.editor.specs.EditorInner.{onlyPrecedes, FirstBeyond, RowChecked};
 use table::Answer;
 
 // 6: the first record with a precedes bit beyond the row, or the number of records.
 fn first_beyond(n: usize, precedes: &[u32; 32]) -> usize
     requires { ⌜ n ≤ 32 ⌝ }
-    ensures { λ r. ⌜ FirstBeyond (preceding n (now (precedes .entry))) r ⌝ }
+    ensures { λ r. ⌜ FirstBeyond (onlyPrecedes n (now (precedes .entry))) r ⌝ }
 {
     for i in 0..n {
         if mask::beyond(mask::bits(precedes[i]), n) {
@@ -19,7 +18,7 @@ fn first_beyond(n: usize, precedes: &[u32; 32]) -> usize
 
 // The first number that applies, with its place.
 pub fn check(n: usize, precedes: &[u32; 32]) -> Answer
-    ensures { λ a. ⌜ Checked (preceding n (now (precedes .entry))) a ⌝ }
+    ensures { λ a. ⌜ RowChecked (onlyPrecedes n (now (precedes .entry))) a ⌝ }
 {
     if 32 < n {
         return Answer {

@@ -1,14 +1,14 @@
 // The editor's row: a lent slice of four-mask records is copied into arrays, checked, and analysed as a table's masks are.
 ghost use mathlib.Core.Path.{_≡_};
-ghost use Rattle.pairs.specs.Lent.{masksIn};
-ghost use Rattle.editor.specs.Rows.{rowMasks, Padded, RowsSay};
-ghost use Rattle.editor.specs.Copying.{noRows, withRow};
-ghost use Rattle.editor.specs.Bytes.{rowsIn};
+ghost use Rattle.analysis_pairs.specs.AnalysisPairsInner.{masksIn};
+ghost use Rattle.editor.specs.Rows.{rowMasks, RowsSay};
+ghost use Rattle.editor.specs.EditorInner.{RestZero, noRows, withRow};
+ghost use Rattle.editor.specs.RowsIn.{rowsIn};
 
 mod checks;
 
-use judging::Report;
-use pairs::Masks;
+use analysis_masks::Report;
+use analysis_pairs::Masks;
 
 // Four masks of a rule: the cells that it watches, reads and writes, and the rules that it precedes.
 pub struct Record {
@@ -57,7 +57,7 @@ fn judged(
     writes: &[u32; 32],
     precedes: &[u32; 32],
 ) -> Report
-    requires { ⌜ Padded (masksIn n (now watch) (now reads) (now writes) (now precedes)) ⌝ }
+    requires { ⌜ RestZero (masksIn n (now watch) (now reads) (now writes) (now precedes)) ⌝ }
     ensures { λ r. ⌜ RowsSay (masksIn n (now (watch .entry)) (now (reads .entry)) (now (writes .entry)) (now (precedes .entry))) r ⌝ }
 {
     let a = checks::check(n, precedes);
@@ -65,13 +65,13 @@ fn judged(
         return analysis::no_report(a.number, a.place);
     }
     let mut marks = [0u8; 496];
-    let v = judging::rows::judged(n, watch, reads, writes, precedes, &mut marks);
-    judging::whole(v, &marks)
+    let v = analysis_masks::rows::judged(n, watch, reads, writes, precedes, &mut marks);
+    analysis_masks::whole(v, &marks)
 }
 
 // The report of records in arrays.
 fn analysed(m: Masks) -> Report
-    requires { ⌜ Padded m ⌝ }
+    requires { ⌜ RestZero m ⌝ }
     ensures { λ r. ⌜ RowsSay m r ⌝ }
 {
     let watch = m.watch;
@@ -102,9 +102,9 @@ pub fn report_of_bytes(s: &[u8]) -> Report
     if 32 < n {
         return analysis::no_report(3, 255);
     }
-    let watch = parts::column(s, 0, 16, n);
-    let reads = parts::column(s, 4, 16, n);
-    let writes = parts::column(s, 8, 16, n);
-    let precedes = parts::column(s, 12, 16, n);
+    let watch = rule_read::column(s, 0, 16, n);
+    let reads = rule_read::column(s, 4, 16, n);
+    let writes = rule_read::column(s, 8, 16, n);
+    let precedes = rule_read::column(s, 12, 16, n);
     judged(n, &watch, &reads, &writes, &precedes)
 }

@@ -1,2 +1,3 @@
--- What the walks by hand share.
-mod Parts
+-- Laws that `game` stands on and passes on to other crates.
+pub mod GamePartsLaws
+pub mod LoopLaws

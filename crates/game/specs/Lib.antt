@@ -1,4 +1,3 @@
--- What the contracts of `game` cite: `Lent` for a step on the spot, `Loop` and its laws for the game loop.
-pub mod Lent
-pub mod Loop
-pub mod LoopLaws
+-- What the contracts of `game` cite; `GameInner` is for inner functions alone.
+pub mod GameInner
+pub mod LentState

@@ -1,17 +1,17 @@
 // The game loop: a single run state, lent to be changed on the spot.
 ghost use mathlib.Core.Path.{_≡_};
 ghost use Rattle.table.specs.Memory.{tableFrom};
-ghost use Rattle.steps.specs.Step.{stepOf, postOf};
-ghost use Rattle.steps.specs.Run.{ran, runOf};
-ghost use Rattle.game.specs.Lent.{answerOf};
-ghost use Rattle.game.specs.Loop.{Due};
-use steps::Ran;
-use steps::State;
+ghost use Rattle.machine_spec.specs.Step.{stepOf, postOf};
+ghost use Rattle.machine_spec.specs.Run.{ran, runOf};
+ghost use Rattle.game.specs.LentState.{LeftBy};
+ghost use Rattle.game.specs.GameInner.{Due};
+use machine_spec::Ran;
+use machine_spec::State;
 use table::Answer;
 
 // One step on r: its state is stored where it is done; where it is refused, the state is the one given.
 pub fn step(table: &[u8; 9092], s: &mut State, r: u32) -> Answer
-    ensures { λ a. ⌜ (now (s .exit) ≡ stepOf (tableFrom (now (table .entry))) (now (s .entry)) r .state) × (a ≡ answerOf (stepOf (tableFrom (now (table .entry))) (now (s .entry)) r)) ⌝ }
+    ensures { λ a. ⌜ LeftBy (stepOf (tableFrom (now (table .entry))) (now (s .entry)) r) (now (s .exit)) a ⌝ }
 {
     let done = machine::step(table, *s, r);
     *s = done.state;
@@ -23,7 +23,7 @@ pub fn step(table: &[u8; 9092], s: &mut State, r: u32) -> Answer
 
 // A value posted to a cell, in the same way.
 pub fn post(table: &[u8; 9092], s: &mut State, cell: u32, value: i64) -> Answer
-    ensures { λ a. ⌜ (now (s .exit) ≡ postOf (tableFrom (now (table .entry))) (now (s .entry)) cell value .state) × (a ≡ answerOf (postOf (tableFrom (now (table .entry))) (now (s .entry)) cell value)) ⌝ }
+    ensures { λ a. ⌜ LeftBy (postOf (tableFrom (now (table .entry))) (now (s .entry)) cell value) (now (s .exit)) a ⌝ }
 {
     let posted = machine::post(table, *s, cell, value);
     *s = posted.state;

@@ -1,9 +1,10 @@
--- A graph of rules as a row of masks: mask r is the set of the rules that r leads straight to. Assumes nothing.
+-- A graph of rules as a row of masks: mask r is the set of the rules that r leads straight to.
 use mathlib.Core.Path.{_≡_}
 use mathlib.Core.Bool.{Bool, true, _&&_, _||_}
 use mathlib.Core.List.{List}
-use Prim.Native.Nat.{ℕ, zero, suc, _^_, _<_}
-use lib.ListN.{length, getD}
+use Prim.Native.Nat.{ℕ, zero, suc}
+use lib.ListN.{getD}
+use Rattle.mask.specs.Search.{some}
 use Rattle.mask.specs.Mask.{has}
 
 -- r leads straight to s
@@ -20,11 +21,6 @@ unfoldable pub leads : List ℕ → ℕ → ℕ → ℕ → Bool
 leads rows zero r s = has (getD rows r 0) s
 leads rows (suc k) r s = leads rows k r s || (leads rows k r k && leads rows k k s)
 
--- q is the row p, but that one more rule, k, may stand in between
-pub record Through (p : List ℕ) (k : ℕ) (q : List ℕ) : Type 0 where
-  pub size : length q ≡ length p
-  pub masks : (r s : ℕ) → has (getD q r 0) s ≡ (has (getD p r 0) s || (has (getD p r 0) k && has (getD p k 0) s))
-
--- every mask of the row names rules below n only
-abbrev pub Rows : ℕ → List ℕ → Type 0
-Rows n rows = (r : ℕ) → getD rows r 0 < 2 ^ n
+-- whether one of the n rules leads to itself
+unfoldable pub cyclic : ℕ → List ℕ → Bool
+cyclic n rows = some n (λ r. leads rows n r r)

@@ -1,4 +1,3 @@
--- Graphs of rules: `Graph` has the definitions, the others their laws.
+-- What the contracts of `graph` cite; `GraphInner` is for inner functions alone.
 pub mod Graph
-pub mod GraphLaws
-pub mod Halts
+pub mod GraphInner

@@ -3,7 +3,8 @@ ghost use mathlib.Core.Path.{_≡_};
 ghost use Prim.Native.Nat.{ℕ, _<_, _≤_};
 ghost use lib.ListN.{length, getD};
 ghost use Rattle.mask.specs.Mask.{has};
-ghost use Rattle.graph.specs.Graph.{leads, Through};
+ghost use Rattle.graph.specs.Graph.{leads};
+ghost use Rattle.graph.specs.GraphInner.{Through};
 
 // One more rule, k, may stand in between.
 fn through(q: &mut [u32; 32], k: usize)

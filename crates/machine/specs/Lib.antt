@@ -1,2 +1,2 @@
--- What the contracts of `machine` cite beside the definitions of `steps`: what a run is lent.
-pub mod Lent
+-- What the contracts of `machine` cite, all of them inner.
+pub mod MachineInner

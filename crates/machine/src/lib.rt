@@ -1,19 +1,20 @@
 // The machine: states by value, and the paper's step, posting and run on a table that is lent as its 9,092 bytes.
 ghost use mathlib.Core.Path.{_≡_};
-ghost use Rattle.endian.specs.Little.{byteAt};
+ghost use Rattle.mask.specs.First.{firstOf};
+ghost use Rattle.bytes.specs.Little.{byteAt};
 ghost use Rattle.table.specs.Memory.{tableFrom};
-ghost use Rattle.table.specs.Image.{Sizes};
-ghost use Rattle.steps.specs.State.{still};
-ghost use Rattle.steps.specs.Step.{moved, stepNumber, stepOf, postNumber, postOf, freshOf};
-ghost use Rattle.steps.specs.Run.{runOf};
-ghost use Rattle.machine_step.specs.Turn.{stateOf};
+ghost use Rattle.table.specs.TableInner.{Sizes};
+ghost use Rattle.machine_spec.specs.State.{still};
+ghost use Rattle.machine_spec.specs.Step.{moved, stepNumbers, stepOf, postNumbers, postOf, freshOf};
+ghost use Rattle.machine_spec.specs.Run.{runOf};
+ghost use Rattle.machine_step.specs.MachineStepInner.{stateOf};
 
 mod running;
 
+use machine_spec::Moved;
+use machine_spec::Ran;
+use machine_spec::State;
 use machine_step::Masks;
-use steps::Moved;
-use steps::Ran;
-use steps::State;
 
 fn answer(number: u8, place: u8, s: State) -> Moved
     ensures { λ m. ⌜ m ≡ moved number place s ⌝ }
@@ -58,7 +59,7 @@ pub fn fresh(table: &[u8; 9092], cells: [i64; 32]) -> Moved
 // A step's own numbers, upward: 11 to 14, or 0.
 fn step_number(table: &[u8], cells: &[i64; 32], m: Masks, r: u32) -> u8
     requires { ⌜ Sizes (now table) (byteAt (now table) 1) (byteAt (now table) 2) ⌝ }
-    ensures { λ x. ⌜ x ≡ stepNumber (tableFrom (now (table .entry))) (stateOf (now (cells .entry)) m) r ⌝ }
+    ensures { λ x. ⌜ x ≡ firstOf 0 (stepNumbers (tableFrom (now (table .entry))) (stateOf (now (cells .entry)) m) r) ⌝ }
 {
     if machine_step::state_bad(table[1], table[2], cells, m) {
         return 11;
@@ -104,7 +105,7 @@ pub fn step(table: &[u8; 9092], s: State, r: u32) -> Moved
 // A posting's own numbers, upward: 11 and 16, or 0.
 fn post_number(table: &[u8], cells: &[i64; 32], m: Masks, cell: u32, value: i64) -> u8
     requires { ⌜ Sizes (now table) (byteAt (now table) 1) (byteAt (now table) 2) ⌝ }
-    ensures { λ x. ⌜ x ≡ postNumber (tableFrom (now (table .entry))) (stateOf (now (cells .entry)) m) cell value ⌝ }
+    ensures { λ x. ⌜ x ≡ firstOf 0 (postNumbers (tableFrom (now (table .entry))) (stateOf (now (cells .entry)) m) cell value) ⌝ }
 {
     if machine_step::state_bad(table[1], table[2], cells, m) {
         return 11;
@@ -133,7 +134,7 @@ pub fn post(table: &[u8; 9092], s: State, cell: u32, value: i64) -> Moved
         return answer(number, 255, s);
     }
     let row = table::watches(table, rule::count(table[1]));
-    let changed = amounts::put(&mut cells, cell as usize, value, 0);
+    let changed = rule_act::put(&mut cells, cell as usize, value, 0);
     let after = Masks {
         waiting: machine_step::woken(&row, s.waiting, changed),
         faults: s.faults,

@@ -4,15 +4,15 @@ ghost use mathlib.Core.Bool.{_&&_, not};
 ghost use Prim.Native.Nat.{ℕ};
 ghost use Rattle.mask.specs.Search.{some};
 ghost use Rattle.mask.specs.Mask.{has};
-ghost use Rattle.mask.specs.Loops.{named};
+ghost use Rattle.mask.specs.MaskInner.{named};
 ghost use Rattle.table.specs.Memory.{tableFrom};
-ghost use Rattle.steps.specs.State.{Fits};
-ghost use Rattle.steps.specs.Run.{ran, runs};
-ghost use Rattle.machine_step.specs.Turn.{stateOf};
-ghost use Rattle.machine.specs.Lent.{Lent};
+ghost use Rattle.machine_spec.specs.State.{Fits};
+ghost use Rattle.machine_spec.specs.Run.{ran, runs};
+ghost use Rattle.machine_step.specs.MachineStepInner.{stateOf};
+ghost use Rattle.machine.specs.MachineInner.{Lent};
+use machine_spec::Ran;
+use machine_spec::State;
 use machine_step::Masks;
-use steps::Ran;
-use steps::State;
 
 // The cells and the two masks as a state.
 pub fn joined(cells: [i64; 32], m: Masks) -> State

@@ -3,12 +3,12 @@ ghost use mathlib.Core.Path.{_≡_};
 ghost use mathlib.Core.Bool.{_||_};
 ghost use Prim.Native.Nat.{_≤_, _<_};
 ghost use lib.ListN.{getD};
+ghost use Rattle.mask.specs.Search.{some};
 ghost use Rattle.mask.specs.Mask.{has, meet, maskOf};
-ghost use Rattle.amounts.specs.Ready.{InRange};
-ghost use Rattle.amounts.specs.Slot.{Slot};
-ghost use Rattle.table.specs.Memory.{slotStart, ruleFrom};
-ghost use Rattle.steps.specs.State.{cellsBad};
-ghost use Rattle.machine_step.specs.Turn.{stateOf, stateBadBy, effectBy};
+ghost use Rattle.rule_act.specs.RuleActInner.{InRange, Slot};
+ghost use Rattle.table.specs.TableInner.{slotStart, ruleFrom};
+ghost use Rattle.machine_spec.specs.State.{cellBad};
+ghost use Rattle.machine_step.specs.MachineStepInner.{stateOf, stateBadBy, effectBy};
 
 // Who waits, and who has a fault mark: a state without its cells.
 pub struct Masks {
@@ -18,7 +18,7 @@ pub struct Masks {
 
 // Whether a cell's amount is out of range, or not 0 from k up.
 fn cells_bad(cells: &[i64; 32], k: usize) -> bool
-    ensures { λ r. ⌜ r ≡ cellsBad k (now (cells .entry)) ⌝ }
+    ensures { λ r. ⌜ r ≡ some 32 (cellBad k (now (cells .entry))) ⌝ }
 {
     let mut bad = false;
     for c in 0..32 {
@@ -57,17 +57,17 @@ pub fn turn(s: &[u8], r: usize, row: &[u32; 32], cells: &mut [i64; 32], m: Masks
         waiting: mask::without(m.waiting, r),
         faults: m.faults,
     };
-    if amounts::any_false(s, at, cells) {
+    if rule_act::any_false(s, at, cells) {
         return rest;
     }
     let mut values = [0i64; 8];
-    if amounts::right_sides(s, at, cells, &mut values) {
+    if rule_act::right_sides(s, at, cells, &mut values) {
         return Masks {
             waiting: rest.waiting,
             faults: mask::with(rest.faults, r),
         };
     }
-    let changed = amounts::store(s, at, &values, cells);
+    let changed = rule_act::store(s, at, &values, cells);
     Masks {
         waiting: woken(row, rest.waiting, changed),
         faults: rest.faults,

@@ -1,8 +1,5 @@
--- What the contracts of `mask` cite: `Search` and `Mask` are the definitions, the others their laws.
+-- What the contracts of `mask` cite; `MaskInner` is for inner functions alone.
 pub mod Search
-pub mod SearchLaws
+pub mod First
 pub mod Mask
-pub mod Bits
-pub mod MaskLaws
-pub mod Loops
-pub mod Below
+pub mod MaskInner

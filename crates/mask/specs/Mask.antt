@@ -1,8 +1,8 @@
--- A set of numbers below 32 as a mask: bit i of m says whether i is a member. Assumes nothing.
-use mathlib.Core.Bool.{Bool, not, _&&_}
+-- A set of numbers below 32 as a mask: bit i of m says whether i is a member.
+use mathlib.Core.Bool.{Bool, _&&_}
 use Prim.Native.Nat.{ℕ, zero, suc, _+_, _*_, _/_, _%_, _^_}
 use lib.Dec.{eqb, leb}
-use Rattle.mask.specs.Search.{some, least, oneIf}
+use Rattle.mask.specs.Search.{some, oneIf}
 
 -- whether i is a member of m
 unfoldable pub has : ℕ → ℕ → Bool
@@ -12,17 +12,9 @@ has m i = eqb (m / 2 ^ i % 2) 1
 unfoldable pub meet : ℕ → ℕ → Bool
 meet a b = some 32 (λ i. has a i && has b i)
 
--- whether every member of a is one of b: none of a is outside b
-unfoldable pub within : ℕ → ℕ → Bool
-within a b = not (some 32 (λ i. has a i && not (has b i)))
-
 -- whether some member of m is n or more
 unfoldable pub beyond : ℕ → ℕ → Bool
 beyond m n = some 32 (λ i. has m i && leb n i)
-
--- the lowest member of m, or 32 where it has none
-unfoldable pub lowest : ℕ → ℕ
-lowest m = least 32 (has m)
 
 -- the mask of the numbers below n at which f holds
 unfoldable pub maskOf : ℕ → (ℕ → Bool) → ℕ

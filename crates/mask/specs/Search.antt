@@ -1,4 +1,4 @@
--- Search below n: whether a test holds somewhere, the least number at which it holds, at how many it holds. Assumes nothing.
+-- Search below n: whether a test holds somewhere, the least number at which it holds, at how many it holds.
 use mathlib.Core.Bool.{Bool, false, _||_, cond}
 use Prim.Native.Nat.{ℕ, zero, suc, _+_}
 

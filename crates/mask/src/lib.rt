@@ -5,7 +5,8 @@ ghost use Prim.Native.Nat.{ℕ, _^_, _<_, _≤_};
 ghost use lib.ListN.{getD};
 ghost use lib.Dec.{eqb, ltb};
 ghost use Rattle.mask.specs.Search.{some};
-ghost use Rattle.mask.specs.Mask.{has, meet, within, beyond, lowest};
+ghost use Rattle.mask.specs.Mask.{has, meet, beyond};
+ghost use Rattle.mask.specs.MaskInner.{lowest};
 
 // A mask as it is; it has 32 bits.
 pub fn bits(m: u32) -> u32
@@ -58,13 +59,6 @@ pub fn meets(a: u32, b: u32) -> bool
     ensures { λ r. ⌜ r ≡ meet a b ⌝ }
 {
     a & b != 0
-}
-
-// Whether every member of a is one of b.
-pub fn within(a: u32, b: u32) -> bool
-    ensures { λ r. ⌜ r ≡ within a b ⌝ }
-{
-    a | b == b
 }
 
 // All the numbers below n.

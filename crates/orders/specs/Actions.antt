@@ -1,5 +1,4 @@
 -- The paper's own body: all targets together, or a fault, or nothing. It meets the facts asked in Bodies.
--- Assumes nothing.
 use mathlib.Core.Path.{_≡_, refl, _∙_, ap}
 use mathlib.Core.Bool.{Bool, true, false, So, _&&_, _||_, cond, and-eq-true-iff}
 use Prim.Native.Nat.{ℕ, _<_}

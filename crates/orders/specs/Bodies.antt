@@ -1,15 +1,15 @@
 -- A machine with cells: rules are bodies that watch, read and write cells, with a fault mark and a memory
 -- for each rule. Here is what is to be believed: the step, and the facts asked of bodies, priorities and an
--- analysis. Assumes nothing.
+-- analysis.
 use mathlib.Core.Path.{_≡_}
 use mathlib.Core.Logic.{_≢_}
 use mathlib.Core.Bool.{Bool, So}
 use Prim.Native.Nat.{ℕ, _<_}
 use Rattle.orders.specs.Runner.{Runner}
 use Rattle.orders.specs.System.{Weighs}
-use Rattle.orders.specs.Put.{put}
+use Rattle.orders.specs.Overwritten.{put}
 use Rattle.orders.specs.Cells.{Cells, EqualOn}
-use Rattle.orders.specs.Memory.{Memory}
+use Rattle.orders.specs.Kept.{Memory}
 
 -- n rules over k cells
 pub record Bodies (k : ℕ) : Type 1 where

@@ -1,11 +1,11 @@
 -- The cells under two rules that commute: neither writes what the other reads or writes, so the bodies can
--- act in either order, and each cell is changed by at most one of the two. Assumes nothing.
+-- act in either order, and each cell is changed by at most one of the two.
 use mathlib.Core.Path.{_≡_, sym, _∙_}
 use mathlib.Core.Logic.{inl, inr, _≢_, Ne·symm}
 use mathlib.Core.Bool.{true, So, Bool-discrete}
 use Prim.Native.Nat.{ℕ, _<_}
 use Rattle.orders.specs.Cells.{Cells, EqualOn}
-use Rattle.orders.specs.Memory.{OneOf}
+use Rattle.orders.specs.Kept.{OneOf}
 use Rattle.orders.specs.Bodies.{Bodies, BodyFacts, Analysis}
 
 -- a rule that r may not trigger watches no cell that r changes

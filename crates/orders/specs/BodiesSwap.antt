@@ -1,17 +1,16 @@
 -- Two rules that commute can be stepped in either order: the amounts are the same (BodiesCells); the fault
 -- marks, since neither writes what the other reads; who is woken, since each cell is changed by at most
--- one. Assumes nothing.
+-- one.
 use mathlib.Core.Path.{_≡_, refl, sym, _∙_, ap}
 use mathlib.Core.Logic.{_≢_}
 use mathlib.Core.Bool.{Bool}
 use Prim.Native.Nat.{ℕ}
 use native.Mathlib.Decide.{ℕ-discrete}
-use Rattle.orders.specs.Put.{put, put-same, put-other, put-swap}
+use Rattle.orders.specs.Overwritten.{put, put-same, put-other, put-swap}
 use Rattle.orders.specs.Cells.{Cells}
-use Rattle.orders.specs.Memory.{Memory}
+use Rattle.orders.specs.Kept.{Memory}
 use Rattle.orders.specs.Bodies.{Bodies, State, BodyFacts, Analysis, step, Same}
-use Rattle.orders.specs.BodiesCells.{Commuting, commuting-flip, reads-free, watches-free, cells-swap}
-use Rattle.orders.specs.BodiesCells.{by-one}
+use Rattle.orders.specs.BodiesCells.{Commuting, commuting-flip, reads-free, watches-free, cells-swap, by-one}
 
 module _ (k : ℕ) (E : Memory k) (B : Bodies k) where
   open Memory E using (rest, moved)

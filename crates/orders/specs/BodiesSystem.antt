@@ -1,16 +1,15 @@
 -- The machine with cells is a system: every law of System, from the facts on bodies, priorities and an
--- analysis. Assumes nothing.
+-- analysis.
 use mathlib.Core.Path.{_≡_, refl, sym, _∙_, ap, subst}
 use mathlib.Core.Logic.{_⊎_, inl, inr, _≢_, Ne·symm, Equivalence}
 use mathlib.Core.Bool.{Bool, true, So, Bool-discrete}
 use Prim.Native.Nat.{ℕ, _<_}
 use native.Mathlib.Decide.{ℕ-discrete}
-use Rattle.orders.specs.Put.{put, put-same, put-other}
+use Rattle.orders.specs.Overwritten.{put, put-same, put-other}
 use Rattle.orders.specs.System.{System, weighs⇒no-self-trigger}
 use Rattle.orders.specs.Cells.{Cells, EqualOn, equalOn-sym}
-use Rattle.orders.specs.Memory.{Memory}
-use Rattle.orders.specs.Bodies.{Bodies, State, BodyFacts, Priorities, Analysis, waits, step, Same}
-use Rattle.orders.specs.Bodies.{runner}
+use Rattle.orders.specs.Kept.{Memory}
+use Rattle.orders.specs.Bodies.{Bodies, State, BodyFacts, Priorities, Analysis, waits, step, Same, runner}
 use Rattle.orders.specs.BodiesCells.{quiet-on}
 use Rattle.orders.specs.BodiesSwap.{kept-own, kept-other, step-swap}
 
@@ -125,8 +124,8 @@ module _ (k : ℕ) (E : Memory k) (B : Bodies k) where
               inl (ne, wakeful-alike (watches s) (step k E B r S .kept s) (S .kept s) (body r c) c m q w)
 
       -- neither do two rules that commute trigger one another, nor a rule itself
-      pub quiet : (r s : ℕ) → r < n → s < n → So (N .commute r s) → So (mayTrigger r s) → ⊥
-      quiet r s lr ls c t = go (ℕ-discrete r s)
+      pub commuting-quiet : (r s : ℕ) → r < n → s < n → So (N .commute r s) → So (mayTrigger r s) → ⊥
+      commuting-quiet r s lr ls c t = go (ℕ-discrete r s)
         where
           go : Dec (r ≡ s) → ⊥
           go (yes e) =
@@ -149,7 +148,7 @@ module _ (k : ℕ) (E : Memory k) (B : Bodies k) where
             same-step = λ S T q r l w. step-same r S T l q;
             weighs = N .weighs;
             commute-symmetric = N .commute-symmetric;
-            commute-quiet = quiet;
+            commute-quiet = commuting-quiet;
             keeps = λ r s S lr ls w ne t x. step-keeps r s S lr ls ne t x;
             wakes = λ r s S lr ls w x. step-wakes r s S lr ls x;
             swaps = λ r s S lr ls ne c x y.

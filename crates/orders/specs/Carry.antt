@@ -1,5 +1,5 @@
 -- Runs of one runner carried over to another, along a map of rules that may leave some out, and a relation
--- of states. Assumes nothing.
+-- of states.
 use mathlib.Core.Path.{_≡_, refl, ap}
 use mathlib.Core.Bool.{So}
 use mathlib.Core.List.{List, [], _∷_}
@@ -7,7 +7,7 @@ use mathlib.Core.Option.{Option, none, some}
 use Prim.Native.Nat.{ℕ, _<_}
 use Rattle.orders.specs.Runner.{Runner, Eligible, exec, Runs, Ended}
 use Rattle.orders.specs.System.{System}
-use Rattle.orders.specs.Confluence.{OneEnd}
+use Rattle.orders.specs.Confluence.{UniqueEnds}
 
 abbrev push : Option ℕ → List ℕ → List ℕ
 push none u = u
@@ -77,10 +77,10 @@ module _ (A B : Runner) (m : ℕ → Option ℕ) (Rel : A .State → B .State �
 -- same
 module _ (A : Runner) (𝓢 : System) (m : ℕ → Option ℕ) (Rel : A .State → 𝓢 .runner .State → Type 0)
     (C : Carries A (𝓢 .runner) m Rel) where
-  pub carry-one-end : (S : A .State) (T : 𝓢 .runner .State) → Rel S T → OneEnd 𝓢 T → (u v : List ℕ)
+  pub carry-unique-ends : (S : A .State) (T : 𝓢 .runner .State) → Rel S T → UniqueEnds 𝓢 T → (u v : List ℕ)
       → Runs A u S → Runs A v S → Ended A (exec A u S) → Ended A (exec A v S)
       → (T₁ T₂ : 𝓢 .runner .State) × Rel (exec A u S) T₁ × Rel (exec A v S) T₂ × 𝓢 .same T₁ T₂
-  carry-one-end S T q one u v h k f g =
+  carry-unique-ends S T q one u v h k f g =
       let B = 𝓢 .runner in
       let c = carry A B m Rel C u S T q h in
       let d = carry A B m Rel C v S T q k in (

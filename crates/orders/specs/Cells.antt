@@ -1,5 +1,5 @@
 -- Amounts in cells: when two of them are equal on a set of cells, and the test that some cell of a set
--- differs. Assumes nothing.
+-- differs.
 use mathlib.Core.Path.{_≡_, refl, sym, _∙_, ap}
 use mathlib.Core.Logic.{_≢_}
 use mathlib.Core.Bool.{Bool, true, So, _&&_, not, and-eq-true-iff}

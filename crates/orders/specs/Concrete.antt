@@ -1,22 +1,20 @@
 -- A concrete machine that makes the paper's step, and of whose states one can tell the amounts, who waits
 -- and the fault marks: every order of its own steps is short, goes on, and ends with the same amounts and
--- marks. Assumes nothing.
+-- marks.
 use mathlib.Core.Path.{_≡_, refl, sym, _∙_, ap, subst}
 use mathlib.Core.Bool.{Bool, So, _&&_, _||_, not, cond}
 use mathlib.Core.List.{List, [], _∷_, _++_}
 use Prim.Native.Nat.{ℕ, _≤_, _<_}
-use native.Mathlib.Nat.{le-trans}
 use lib.Dec.{eqb}
 use lib.ListN.{length}
 use Rattle.orders.specs.Finite.{sum}
-use Rattle.orders.specs.Put.{put-in, put-out}
+use Rattle.orders.specs.Overwritten.{put-in, put-out}
 use Rattle.orders.specs.Runner.{Runner, Eligible, exec, Runs, Ended}
 use Rattle.orders.specs.System.{System, stepBound}
-use Rattle.orders.specs.Confluence.{OneEnd, PairsPass, one-end}
-use Rattle.orders.specs.View.{Viewed, viewed-short, viewed-on, viewed-one-end}
-use Rattle.orders.specs.Choice.{Chooser, order, order-ends}
+use Rattle.orders.specs.Confluence.{UniqueEnds, PairsPass, passes⇒uniqueEnds}
+use Rattle.orders.specs.View.{Viewed, viewed-short, viewed-on, viewed-unique-ends}
 use Rattle.orders.specs.Cells.{Cells, changed}
-use Rattle.orders.specs.Memory.{waitingBit}
+use Rattle.orders.specs.Kept.{waitingBit}
 use Rattle.orders.specs.Bodies.{Priorities, Analysis}
 use Rattle.orders.specs.BodiesSystem.{system}
 use Rattle.orders.specs.Actions.{Actions, stored, actionBodies, actionFacts}
@@ -102,19 +100,12 @@ module _ (k : ℕ) (A : Actions k) (𝓡 : Runner) (C : Concrete k A 𝓡) where
     pub cleared⇒promised : PairsPass machine → (S : 𝓡 .State) → fit S → Promised S
     unfolding waitingBit view stepBound
     cleared⇒promised passes S f =
-        let one : OneEnd machine (view S) = one-end machine passes (view S) in
+        let one : UniqueEnds machine (view S) = passes⇒uniqueEnds machine passes (view S) in
         record {
           short = viewed-short 𝓡 machine fit view viewed S f;
           goes-on = viewed-on 𝓡 machine fit view viewed S;
           same-amounts = λ u v h k p q.
-              viewed-one-end 𝓡 machine fit view viewed S f one u v h k p q .cells-same;
+              viewed-unique-ends 𝓡 machine fit view viewed S f one u v h k p q .cells-same;
           same-faults = λ u v h k p q.
-              viewed-one-end 𝓡 machine fit view viewed S f one u v h k p q .marks-same;
+              viewed-unique-ends 𝓡 machine fit view viewed S f one u v h k p q .marks-same;
         }
-
-    -- a machine that chooses by itself ends, if its budget is at least the step bound
-    pub budget⇒ended : (H : Chooser 𝓡 fit) (S : 𝓡 .State) → fit S → (b : ℕ)
-        → sum (λ s. cond (𝓡 .waits S s) (N .weight s) 0) (A .n) ≤ b → Ended 𝓡 (exec 𝓡 (order 𝓡 fit H b S) S)
-    unfolding waitingBit view stepBound
-    budget⇒ended H S f b l =
-        order-ends 𝓡 fit H b S f (λ u h. le-trans (viewed-short 𝓡 machine fit view viewed S f u h) l)

@@ -1,5 +1,5 @@
 -- The numbers below k: a sum over them, a search among them, tests of some and of all of them. With a few
--- facts of Booleans. Assumes nothing.
+-- facts of Booleans.
 use mathlib.Core.Path.{_≡_, refl, sym, subst}
 use mathlib.Core.Logic.{_⊎_, inl, inr, ⊎-elim}
 use mathlib.Core.Bool.{Bool, true, false, So, _&&_, _||_, not, cond, false≢true, and-eq-true-iff}

@@ -1,6 +1,5 @@
 -- Where i and j are both eligible and their pair meets the pair condition, the two ways part and come
--- together again. This is local confluence, the part that is special to rules with priorities. Assumes
--- nothing.
+-- together again. This is local confluence, the part that is special to rules with priorities.
 use mathlib.Core.Path.{_≡_, refl}
 use mathlib.Core.Logic.{_⊎_, inl, inr, ⊎-elim}
 use mathlib.Core.Bool.{Bool, true, So, Bool-discrete}
@@ -9,7 +8,7 @@ use Prim.Native.Nat.{ℕ, _<_}
 use native.Mathlib.Decide.{ℕ-discrete, decLt}
 use Rattle.orders.specs.Runner.{Runner, Eligible, exec, Runs, AtOrBefore, then-atOrBefore}
 use Rattle.orders.specs.System.{System}
-use Rattle.orders.specs.Side.{Side, Quiet, branch, after-branch}
+use Rattle.orders.specs.Side.{Side, NoneAhead, branch, after-branch}
 use Rattle.orders.specs.Pairs.{Closed, PairCondition, pairCondition-flip}
 
 module _ (𝓢 : System) (i j : ℕ) (li : i < 𝓢 .runner .n) (lj : j < 𝓢 .runner .n) where
@@ -98,8 +97,8 @@ module _ (𝓢 : System) (i j : ℕ) (li : i < 𝓢 .runner .n) (lj : j < 𝓢 .
       let Q = In (p .R₂) in
       let D₁ = side i j p in
       let D₂ = side j i (pairCondition-flip 𝓢 i j p) in
-      let quiet₁ : Quiet 𝓢 P Q D₁ S = λ s m l w b q. none-under S hi hj s m l w b (q .0) (q .2) in
-      let quiet₂ : Quiet 𝓢 Q P D₂ S = λ s m l w b q. none-under S hi hj s m l w b (q .0) (q .2) in
+      let quiet₁ : NoneAhead 𝓢 P Q D₁ S = λ s m l w b q. none-under S hi hj s m l w b (q .0) (q .2) in
+      let quiet₂ : NoneAhead 𝓢 Q P D₂ S = λ s m l w b q. none-under S hi hj s m l w b (q .0) (q .2) in
       let b₁ = branch 𝓢 P Q D₁ i S (hi .below, p .has₁, inl (inl refl)) hi quiet₁ in
       let b₂ = branch 𝓢 Q P D₂ j S (hj .below, p .has₂, inr (inl refl)) hj quiet₂ in
       let a₁ = after-branch 𝓢 P Q D₁ i (j ∷ b₂ .rules) S b₁ (b₂ .runs) (b₂ .each) in

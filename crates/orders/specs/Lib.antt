@@ -18,22 +18,20 @@ pub mod Side
 pub mod Pairs
 -- it gives local confluence
 pub mod Join
--- the theorem: OneEnd, EveryOrder
+-- the theorem: every run is short and goes on, and all ends are one
 pub mod Confluence
 -- ── from one machine to another ──
 -- runs carried over along a map of rules and a relation of states
 pub mod Carry
 -- a concrete machine viewed as an abstract system
 pub mod View
--- the order that a machine chooses by itself is one of the permitted ones
-pub mod Choice
 -- ── a machine with cells ──
 -- amounts, and the test that some of them differ
 pub mod Cells
 -- a function changed at one number
-pub mod Put
+pub mod Overwritten
 -- what a rule keeps between steps; a waiting bit
-pub mod Memory
+pub mod Kept
 -- bodies that watch, read and write cells: the step, and the facts asked
 pub mod Bodies
 -- the cells under two rules that commute
@@ -48,12 +46,8 @@ pub mod Sets
 pub mod Actions
 -- a concrete machine that makes the paper's step: every order ends with the same amounts and fault marks
 pub mod Concrete
--- ── two instances ──
+-- ── an instance ──
 -- tests that compute
-pub mod Check
--- the rules of the night book, one target left open
-pub mod Night
--- mended: the first set has to grow, and all orders agree
+pub mod SmallTests
+-- the mended night book: the first set has to grow, and all orders agree
 pub mod Mended
--- the night book itself: without growing nothing is found, and two orders end differently
-pub mod NightBook

@@ -1,9 +1,8 @@
--- Newman's lemma, for any relation and up to an equivalence: what terminates and is locally confluent is
--- confluent, and what is confluent has unique normal forms. Knows no rules. Assumes nothing.
+-- Newman's lemma, for any relation and up to an equivalence (confluent modulo it): what terminates and is locally
+-- confluent is confluent, and what is confluent has unique normal forms. Knows no rules.
 use mathlib.Core.Path.{_≡_, subst}
 use mathlib.Core.Logic.{Equivalence, _⊎_, inl, inr}
-use mathlib.Mathlib.Logic.Relation.{ReflTransGenᴰ as Star, ReflTransGenᴰ·refl as none}
-use mathlib.Mathlib.Logic.Relation.{ReflTransGenᴰ·tail as one-more}
+use mathlib.Mathlib.Logic.Relation.{ReflTransGenᴰ as Star, ReflTransGenᴰ·refl as none, ReflTransGenᴰ·tail as one-more}
 use mathlib.Mathlib.Logic.Relation.{ReflTransGenᴰ·trans as star-trans, ReflTransGenᴰ·cases-head as first-step}
 use Prim.Native.Nat.{ℕ, zero, suc, _<_}
 use native.Mathlib.Omega.{arith}
@@ -19,7 +18,7 @@ module _ {A : Type 0} (Step : A → A → Type 0) where
   Terminating measure = (a b : A) → Step a b → measure b < measure a
 
   module _ (same : A → A → Type 0) where
-    -- steps lead from both to elements that are the same
+    -- steps eligible-at-or-before from both to elements that are the same
     abbrev pub Joinable : A → A → Type 0
     Joinable b c = (d e : A) × Star Step b d × Star Step c e × same d e
 

@@ -1,5 +1,5 @@
--- The pair condition: the paper's, that a pair passes, and the more general one that the proof uses.
--- Assumes nothing.
+-- The pair condition: the paper's, that a pair passes, and the more general one that the proof uses. It is the confluence requirement of
+-- Aiken, Widom and Hellerstein for rules with priorities.
 use mathlib.Core.Path.{_≡_, sym, _∙_, subst}
 use mathlib.Core.Logic.{_≢_}
 use mathlib.Core.Bool.{Bool, So}

@@ -1,5 +1,5 @@
 -- What runs: rules with priorities, who waits, a step. Which orders are permitted, when a run has ended,
--- and that where something waits something is eligible. No law but that of the priorities. Assumes nothing.
+-- and that where something waits something is eligible. No law but that of the priorities.
 use mathlib.Core.Path.{_≡_, refl, sym, ap, subst}
 use mathlib.Core.Logic.{_⊎_, inl, inr, ⊎-elim, Dec·and}
 use mathlib.Core.Bool.{Bool, true, false, So, cond, Bool-discrete}
@@ -92,14 +92,14 @@ module _ (𝓡 : Runner) where
 
   -- ── where something waits, something is eligible ──
   -- an eligible rule that is r or goes before r
-  pub record Lead (r : ℕ) (S : State) : Type 0 where
+  pub record EligibleAtOrBefore (r : ℕ) (S : State) : Type 0 where
     pub rule : ℕ
     pub eligible : Eligible rule S
     pub ahead : AtOrBefore rule r
 
-  lead-below : (k r : ℕ) (S : State) → height r < k → r < n → So (waits S r) → Lead r S
-  lead-below zero r S f l w = absurd (omega arith)
-  lead-below (suc k) r S f l w = go (λ s. lead-below k s S) (search-below D dec n)
+  eligible-below : (k r : ℕ) (S : State) → height r < k → r < n → So (waits S r) → EligibleAtOrBefore r S
+  eligible-below zero r S f l w = absurd (omega arith)
+  eligible-below (suc k) r S f l w = go (λ s. eligible-below k s S) (search-below D dec n)
     where
       D : ℕ → Type 0
       D s = So (waits S s) × So (goesBefore s r)
@@ -107,8 +107,8 @@ module _ (𝓡 : Runner) where
       dec : (s : ℕ) → Dec (D s)
       dec s = Dec·and (Bool-discrete (waits S s) true) (Bool-discrete (goesBefore s r) true)
 
-      go : ((s : ℕ) → height s < k → s < n → So (waits S s) → Lead s S) → Dec ((s : ℕ) × (s < n) × D s)
-          → Lead r S
+      go : ((s : ℕ) → height s < k → s < n → So (waits S s) → EligibleAtOrBefore s S) → Dec ((s : ℕ) × (s < n) × D s)
+          → EligibleAtOrBefore r S
       go ih (yes d) =
           let s = d .0 in
           let t = ih s (omega (arith, height-falls s r (d .1) l (d .2 .1))) (d .1) (d .2 .0) in
@@ -121,15 +121,12 @@ module _ (𝓡 : Runner) where
             ahead = inl refl;
           }
 
-  pub lead : (r : ℕ) (S : State) → r < n → So (waits S r) → Lead r S
-  lead r S l w = lead-below (suc (height r)) r S (omega arith) l w
+  pub eligible-at-or-before : (r : ℕ) (S : State) → r < n → So (waits S r) → EligibleAtOrBefore r S
+  eligible-at-or-before r S l w = eligible-below (suc (height r)) r S (omega arith) l w
 
   -- (b) after any run, if something waits, the run goes on
   pub goes-on : (u : List ℕ) (S : State) → Runs u S → (r : ℕ) → r < n → So (waits (exec u S) r)
       → (s : ℕ) × Runs (u ++ (s ∷ [])) S
   goes-on u S h r l w =
-      let t = lead r (exec u S) l w in
+      let t = eligible-at-or-before r (exec u S) l w in
       (t .rule, runs-append u (t .rule ∷ []) S h (t .eligible, tt))
-
-  pub some-waits? : (S : State) → Dec ((r : ℕ) × (r < n) × So (waits S r))
-  some-waits? S = search-below (λ r. So (waits S r)) (λ r. Bool-discrete (waits S r) true) n

@@ -1,5 +1,5 @@
 -- The paper's own analysis, from the sets of watched, read and written cells. With weights it is an analysis
--- as Bodies asks for. Assumes nothing.
+-- as Bodies asks for.
 use mathlib.Core.Path.{_≡_, sym}
 use mathlib.Core.Logic.{⊎-elim, _≢_}
 use mathlib.Core.Bool.{Bool, So, _&&_, _||_, not, and-eq-true-iff, or-comm}
@@ -45,13 +45,13 @@ module _ (k : ℕ) (B : Bodies k) where
   commute-elim r s ne c =
       ⊎-elim (λ e. absurd (ne (eqb-true r s e))) (and-eq-true-iff _ _ .0) (or-cases (eqb r s) _ c)
 
-  pub commute-quiet : (r s : ℕ) → r ≢ s → So (commute r s) → So (mayTrigger r s) → ⊥
-  commute-quiet r s ne c t =
+  pub commute-no-trigger : (r s : ℕ) → r ≢ s → So (commute r s) → So (mayTrigger r s) → ⊥
+  commute-no-trigger r s ne c t =
       not-elim (mayTrigger r s || mayTrigger s r) (commute-elim r s ne c .0)
       (or-left (mayTrigger r s) (mayTrigger s r) t)
 
-  pub commute-apart : (r s : ℕ) → r ≢ s → So (commute r s) → So (clashes r s) → ⊥
-  commute-apart r s ne c t =
+  pub commute-no-clash : (r s : ℕ) → r ≢ s → So (commute r s) → So (clashes r s) → ⊥
+  commute-no-clash r s ne c t =
       not-elim (clashes r s || clashes s r) (commute-elim r s ne c .1) (or-left (clashes r s) (clashes s r) t)
 
   eqb-sym : (r s : ℕ) → eqb r s ≡ eqb s r
@@ -77,9 +77,9 @@ module _ (k : ℕ) (B : Bodies k) (weight : ℕ → ℕ) where
         triggers = λ r s x lr ls lx w i. mayTrigger-intro k B r s x lx w i;
         weighs = weighs;
         commute-symmetric = λ r s lr ls c. commute-symmetric k B r s c;
-        commute-quiet = λ r s lr ls ne c t. commute-quiet k B r s ne c t;
+        commute-quiet = λ r s lr ls ne c t. commute-no-trigger k B r s ne c t;
         commute-reads = λ r s x lr ls lx ne c w i.
-            commute-apart k B r s ne c (clashes-intro k B r s x lx w (or-left (reads s x) (writes s x) i));
+            commute-no-clash k B r s ne c (clashes-intro k B r s x lx w (or-left (reads s x) (writes s x) i));
         commute-writes = λ r s x lr ls lx ne c w i.
-            commute-apart k B r s ne c (clashes-intro k B r s x lx w (or-right (reads s x) (writes s x) i));
+            commute-no-clash k B r s ne c (clashes-intro k B r s x lx w (or-right (reads s x) (writes s x) i));
       }

@@ -1,15 +1,14 @@
 -- One side of a pair: a set P of rules that run, against a set Q with all of which they commute. Rules of P
 -- run until nothing that waits goes before a rule of Q. After them a run of rules of Q is still one, and it
--- does not matter which of the two runs comes first. Assumes nothing.
+-- does not matter which of the two runs comes first.
 use mathlib.Core.Logic.{_⊎_, inl, inr, ⊎-elim, _≢_, Ne·symm, Dec·and}
 use mathlib.Core.Bool.{true, So, Bool-discrete}
 use mathlib.Core.List.{List, [], _∷_}
 use Prim.Native.Nat.{ℕ, zero, suc, _<_}
 use native.Mathlib.Omega.{arith}
 use Rattle.orders.specs.Finite.{search-below}
-use Rattle.orders.specs.Runner.{Runner, Eligible, exec, Runs, atOrBefore-then, lead}
-use Rattle.orders.specs.System.{System, EachWaits, runs⇒eachWaits, eachWaits-same, runs-same, exec-same}
-use Rattle.orders.specs.System.{stepBound, stepBound-falls}
+use Rattle.orders.specs.Runner.{Runner, Eligible, exec, Runs, atOrBefore-then, eligible-at-or-before}
+use Rattle.orders.specs.System.{System, EachWaits, runs⇒eachWaits, eachWaits-same, runs-same, exec-same, stepBound, stepBound-falls}
 
 abbrev pub Each : (ℕ → Type 0) → List ℕ → Type 0
 Each P [] = Unit {0}
@@ -41,62 +40,62 @@ module _ (𝓢 : System) (P Q : ℕ → Type 0) (𝓓 : Side 𝓢 P Q) where
       (commute-symmetric a b (P-below a p) (Q-below b q) (commuting a b p q))
 
   -- what waits and goes before a rule of Q: is of P; is not of P; is not there
-  abbrev Own : State → Type 0
-  Own T = (s m : ℕ) → s < n → So (waits T s) → So (goesBefore s m) → Q m → P s
+  abbrev AheadInP : State → Type 0
+  AheadInP T = (s m : ℕ) → s < n → So (waits T s) → So (goesBefore s m) → Q m → P s
 
-  abbrev Alien : State → Type 0
-  Alien T = (s m : ℕ) → s < n → So (waits T s) → So (goesBefore s m) → Q m → P s → ⊥
+  abbrev AheadNotInP : State → Type 0
+  AheadNotInP T = (s m : ℕ) → s < n → So (waits T s) → So (goesBefore s m) → Q m → P s → ⊥
 
-  abbrev pub Quiet : State → Type 0
-  Quiet T = (s m : ℕ) → s < n → So (waits T s) → So (goesBefore s m) → Q m → ⊥
+  abbrev pub NoneAhead : State → Type 0
+  NoneAhead T = (s m : ℕ) → s < n → So (waits T s) → So (goesBefore s m) → Q m → ⊥
 
-  own-step : (a : ℕ) (T : State) → P a → So (waits T a) → Own T → Own (step a T)
-  own-step a T p w o s m l x b q =
+  aheadInP-step : (a : ℕ) (T : State) → P a → So (waits T a) → AheadInP T → AheadInP (step a T)
+  aheadInP-step a T p w o s m l x b q =
       ⊎-elim (λ c. o s m l (c .1) b q) (λ t. closed a s m l p t b q) (wakes a s T (P-below a p) l w x)
 
-  alien-step : (b : ℕ) (T : State) → Q b → So (waits T b) → Alien T → Alien (step b T)
-  alien-step b T q w o s m l x f g p =
+  aheadNotInP-step : (b : ℕ) (T : State) → Q b → So (waits T b) → AheadNotInP T → AheadNotInP (step b T)
+  aheadNotInP-step b T q w o s m l x f g p =
       ⊎-elim (λ c. o s m l (c .1) f g p) (quiet-QP s b p q) (wakes b s T (Q-below b q) l w x)
 
-  alien-same : {S T : State} → same S T → Alien S → Alien T
-  alien-same {S} {T} e o s m l w = o s m l (same-waits T S (same-is .symm S T e) s l w)
+  aheadNotInP-same : {S T : State} → same S T → AheadNotInP S → AheadNotInP T
+  aheadNotInP-same {S} {T} e o s m l w = o s m l (same-waits T S (same-is .symm S T e) s l w)
 
   -- ── rules of P run until nothing that waits goes before a rule of Q ──
-  record Drained (T : State) : Type 0 where
+  record UntilNoneAhead (T : State) : Type 0 where
     pub rules : List ℕ
     pub runs : Runs runner rules T
     pub each : Each P rules
-    pub quiet : Quiet (exec runner rules T)
+    pub quiet : NoneAhead (exec runner rules T)
 
-  Threat : State → ℕ → Type 0
-  Threat T s = So (waits T s) × ((m : ℕ) × (m < n) × (So (goesBefore s m) × Q m))
+  WaitsAhead : State → ℕ → Type 0
+  WaitsAhead T s = So (waits T s) × ((m : ℕ) × (m < n) × (So (goesBefore s m) × Q m))
 
-  threat-dec : (T : State) (s : ℕ) → Dec (Threat T s)
-  unfolding Threat
-  threat-dec T s =
+  waitsAhead-dec : (T : State) (s : ℕ) → Dec (WaitsAhead T s)
+  unfolding WaitsAhead
+  waitsAhead-dec T s =
       Dec·and (Bool-discrete (waits T s) true)
       (search-below (λ m. So (goesBefore s m) × Q m)
       (λ m. Dec·and (Bool-discrete (goesBefore s m) true) (Q-dec m)) n)
 
-  drain-below : (k : ℕ) (T : State) → stepBound 𝓢 T < k → Own T → Drained T
-  unfolding Threat
-  drain-below zero T f o = absurd (omega arith)
-  drain-below (suc k) T f o = go (drain-below k) (search-below (Threat T) (threat-dec T) n)
+  run-below : (k : ℕ) (T : State) → stepBound 𝓢 T < k → AheadInP T → UntilNoneAhead T
+  unfolding WaitsAhead
+  run-below zero T f o = absurd (omega arith)
+  run-below (suc k) T f o = go (run-below k) (search-below (WaitsAhead T) (waitsAhead-dec T) n)
     where
-      go : ((U : State) → stepBound 𝓢 U < k → Own U → Drained U) → Dec ((s : ℕ) × (s < n) × Threat T s)
-          → Drained T
+      go : ((U : State) → stepBound 𝓢 U < k → AheadInP U → UntilNoneAhead U) → Dec ((s : ℕ) × (s < n) × WaitsAhead T s)
+          → UntilNoneAhead T
       go ih (yes d) =
           let s = d .0 in
           let m = d .2 .1 .0 in
           let b = d .2 .1 .2 .0 in
           let q = d .2 .1 .2 .1 in
-          let t = lead runner s T (d .1) (d .2 .0) in
+          let t = eligible-at-or-before runner s T (d .1) (d .2 .0) in
           let a = t .rule in
           let e = t .eligible in
           let ahead = atOrBefore-then runner a s m (e .below) (d .1) (d .2 .1 .1) (t .ahead) b in
           let p : P a = o a m (e .below) (e .waiting) ahead q in
           let falls = stepBound-falls 𝓢 a T (e .below) (e .waiting) in
-          let r = ih (step a T) (omega arith) (own-step a T p (e .waiting) o) in
+          let r = ih (step a T) (omega arith) (aheadInP-step a T p (e .waiting) o) in
           record { rules = a ∷ r .rules; runs = (e, r .runs); each = (p, r .each); quiet = r .quiet }
       go ih (no d) =
           record {
@@ -106,8 +105,8 @@ module _ (𝓢 : System) (P Q : ℕ → Type 0) (𝓓 : Side 𝓢 P Q) where
             quiet = λ s m l w b q. d (s, l, (w, (m, Q-below m q, (b, q))));
           }
 
-  drain : (T : State) → Own T → Drained T
-  drain T o = drain-below (suc (stepBound 𝓢 T)) T (omega arith) o
+  run-until-none-ahead : (T : State) → AheadInP T → UntilNoneAhead T
+  run-until-none-ahead T o = run-below (suc (stepBound 𝓢 T)) T (omega arith) o
 
   -- ── rules of Q after rules of P ──
   -- a rule of Q still waits
@@ -143,7 +142,7 @@ module _ (𝓢 : System) (P Q : ℕ → Type 0) (𝓓 : Side 𝓢 P Q) where
 
   -- a rule of Q that was eligible still is, where nothing of P that waits goes before it
   still-eligible : (u : List ℕ) (S : State) (b : ℕ) → EachWaits 𝓢 u S → Each P u → Q b → Eligible runner b S
-      → Alien (exec runner u S) → Eligible runner b (exec runner u S)
+      → AheadNotInP (exec runner u S) → Eligible runner b (exec runner u S)
   still-eligible u S b g h q el o =
       record {
         below = el .below;
@@ -154,7 +153,7 @@ module _ (𝓢 : System) (P Q : ℕ → Type 0) (𝓓 : Side 𝓢 P Q) where
       }
 
   -- a run of rules of Q is still one, and ends as if it had come first
-  after : (u v : List ℕ) (S : State) → EachWaits 𝓢 u S → Each P u → Alien (exec runner u S)
+  after : (u v : List ℕ) (S : State) → EachWaits 𝓢 u S → Each P u → AheadNotInP (exec runner u S)
       → Runs runner v S → Each Q v
       → Runs runner v (exec runner u S)
       × same (exec runner v (exec runner u S)) (exec runner u (exec runner v S))
@@ -164,7 +163,7 @@ module _ (𝓢 : System) (P Q : ℕ → Type 0) (𝓓 : Side 𝓢 P Q) where
       let q = f .0 in
       let p = past b u S q (r .0 .waiting) g h in
       let el = still-eligible u S b g h q (r .0) o in
-      let o′ = alien-same (p .0) (alien-step b T q (el .waiting) o) in
+      let o′ = aheadNotInP-same (p .0) (aheadNotInP-step b T q (el .waiting) o) in
       let ih = after u v (step b S) (p .1) h o′ (r .1) (f .1) in
       let rn = runs-same 𝓢 v (same-is .symm _ _ (p .0)) (ih .0) in
       ((el, rn), same-is .trans _ _ _ (exec-same 𝓢 v (p .0) (runs⇒eachWaits 𝓢 v (step b T) rn)) (ih .1))
@@ -174,12 +173,12 @@ module _ (𝓢 : System) (P Q : ℕ → Type 0) (𝓓 : Side 𝓢 P Q) where
     pub rules : List ℕ
     pub runs : Runs runner (x ∷ rules) S
     pub each : Each P (x ∷ rules)
-    pub quiet : Quiet (exec runner (x ∷ rules) S)
+    pub quiet : NoneAhead (exec runner (x ∷ rules) S)
 
-  pub branch : (x : ℕ) (S : State) → P x → Eligible runner x S → Quiet S → Branch x S
+  pub branch : (x : ℕ) (S : State) → P x → Eligible runner x S → NoneAhead S → Branch x S
   branch x S p h q =
-      let own = own-step x S p (h .waiting) (λ s m l w b y. absurd (q s m l w b y)) in
-      let d = drain (step x S) own in
+      let own = aheadInP-step x S p (h .waiting) (λ s m l w b y. absurd (q s m l w b y)) in
+      let d = run-until-none-ahead (step x S) own in
       record { rules = d .rules; runs = (h, d .runs); each = (p, d .each); quiet = d .quiet }
 
   pub after-branch : (x : ℕ) (v : List ℕ) (S : State) (b : Branch x S) → Runs runner v S → Each Q v

@@ -1,6 +1,6 @@
 -- What ends and agrees: who may trigger whom, who commutes with whom, weights, which states are as good as
 -- equal, and what a step does to these. From it (a): every run is at most as long as the weight of the
--- waiting set. Assumes nothing.
+-- waiting set.
 use mathlib.Core.Path.{_≡_, refl, ap}
 use mathlib.Core.Logic.{_⊎_, inl, inr, ⊎-elim, _≢_, Equivalence}
 use mathlib.Core.Bool.{Bool, false, So, cond}
@@ -20,7 +20,7 @@ pub record System : Type 1 where
   pub mayTrigger : ℕ → ℕ → Bool
   pub commute : ℕ → ℕ → Bool
   pub weight : ℕ → ℕ
-  -- states that are as good as equal: the same rules wait, and the same steps lead to states as good as equal
+  -- states that are as good as equal: the same rules wait, and the same steps eligible-at-or-before to states as good as equal
   pub same : runner .State → runner .State → Type 0
   pub same-is : Equivalence same
   pub same-waits : (S T : runner .State) → same S T → (r : ℕ) → r < runner .n

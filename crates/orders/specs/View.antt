@@ -1,5 +1,5 @@
 -- A concrete machine (arrays, masks, an invariant) viewed as an abstract system: what is proved of the
--- system holds of the machine, which needs no law of its own. Assumes nothing.
+-- system holds of the machine, which needs no law of its own.
 use mathlib.Core.Path.{_≡_, sym, _∙_, ap, subst}
 use mathlib.Core.Bool.{So}
 use mathlib.Core.List.{List, [], _∷_, _++_}
@@ -9,8 +9,8 @@ use native.Mathlib.Omega.{arith}
 use lib.ListN.{length}
 use Rattle.orders.specs.Runner.{Runner, Eligible, exec, Runs, Ended, goes-on}
 use Rattle.orders.specs.System.{System, stepBound, bounded}
-use Rattle.orders.specs.Confluence.{OneEnd}
-use Rattle.orders.specs.Carry.{Carries, image-some, carry, carry-one-end}
+use Rattle.orders.specs.Confluence.{UniqueEnds}
+use Rattle.orders.specs.Carry.{Carries, image-some, carry, carry-unique-ends}
 
 -- States that fit show who waits; a step of an eligible rule stays fitting and shows the system's step.
 pub record Viewed (A : Runner) (𝓢 : System) (fit : A .State → Type 0) (view : A .State → 𝓢 .runner .State)
@@ -89,13 +89,8 @@ module _ (A : Runner) (𝓢 : System) (fit : A .State → Type 0) (view : A .Sta
   viewed-on S u h = goes-on A u S h
 
   -- (c)
-  pub viewed-one-end : (S : A .State) → fit S → OneEnd 𝓢 (view S) → (u v : List ℕ) → Runs A u S → Runs A v S
+  pub viewed-unique-ends : (S : A .State) → fit S → UniqueEnds 𝓢 (view S) → (u v : List ℕ) → Runs A u S → Runs A v S
       → Ended A (exec A u S) → Ended A (exec A v S) → same (view (exec A u S)) (view (exec A v S))
-  viewed-one-end S f one u v h k p q =
-      let t = carry-one-end A 𝓢 some Shows carries S (view S) (start S f) one u v h k p q in
+  viewed-unique-ends S f one u v h k p q =
+      let t = carry-unique-ends A 𝓢 some Shows carries S (view S) (start S f) one u v h k p q in
       same-is .trans _ _ _ (t .2 .1) (same-is .trans _ _ _ (t .4) (same-is .symm _ _ (t .3 .1)))
-
-  -- a run keeps the states fitting
-  pub exec-fits : (u : List ℕ) (S : A .State) → fit S → Runs A u S → fit (exec A u S)
-  exec-fits [] S f h = f
-  exec-fits (r ∷ u) S f h = exec-fits u (A .step r S) (𝓥 .step-fits r S f (h .0)) (h .1)

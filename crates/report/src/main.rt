@@ -5,6 +5,6 @@ fn main() {
     let mut book = [0u8; 9221];
     let n = io::read_full(0, &mut book);
     let mut out = [0u8; 512];
-    let printed = lines::lines(&book[..n], &mut out);
+    let printed = report_lines::lines(&book[..n], &mut out);
     io::write_all(1, &out[..printed.length]);
 }

@@ -1,5 +1,4 @@
--- The values with nothing in them: "In memory, slots past a count are all zero." Assumes nothing.
-use mathlib.Core.List.{[]}
+-- The values with nothing in them: "In memory, slots past a count are all zero."
 use lib.ListN.{replicate}
 use lib.IntN.{pos}
 use Rattle.rule.specs.declared.Test.{Test}
@@ -25,8 +24,3 @@ noRule =
       assigns = replicate 8 noAssign;
       name = replicate 16 0;
     }
-
--- what code reads past the end of an array of rules: never reached, and of no length
-abbrev pub blankRule : Rule
-blankRule =
-    record { watch = 0; precedes = 0; t = 0; a = 0; m = 0; zero = 0; tests = []; assigns = []; name = [] }

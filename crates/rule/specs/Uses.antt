@@ -1,4 +1,4 @@
--- What a rule watches, reads and writes, and which fields and cells a code uses. Assumes nothing.
+-- What a rule watches, reads and writes, and which fields and cells a code uses.
 use mathlib.Core.Bool.{Bool, _&&_, _||_}
 use Prim.Native.Nat.{ℕ}
 use lib.Dec.{leb, eqb}

@@ -1,16 +1,14 @@
 // The numbers 5 to 9 of a rule where its bytes lie, in a table or in a book.
 ghost use mathlib.Core.Path.{_≡_};
-ghost use mathlib.Core.Bool.{not, _&&_};
 ghost use Prim.Native.Nat.{_+_, _*_, _≤_, _<_};
-ghost use lib.Dec.{ltb, eqb};
 ghost use lib.ListN.{length};
 ghost use Rattle.mask.specs.Search.{some};
-ghost use Rattle.rule.specs.Numbers.{outOfRange, notZero, testCellBad, assignCellBad, testFormBad, assignFormBad, testSlotBad, assignSlotBad, slotted, letterBad, countsBad, cellsBad, formsBad, twice, lettersBad};
-ghost use Rattle.endian.specs.Little.{byteAt};
-ghost use Rattle.parts.specs.Parts.{testIn, assignIn, ruleOf};
-ghost use Rattle.rule_check.specs.With.{numberWith};
-ghost use Rattle.rule_check.specs.Names.{takenIn};
-ghost use Rattle.rule_check.specs.In.{Lies, Fitted};
+ghost use Rattle.rule.specs.Numbers.{outOfRange, testCellBad, assignCellBad, letterBad, countsBad};
+ghost use Rattle.mask.specs.Mask.{beyond};
+ghost use Rattle.bytes.specs.Little.{byteAt, u32At};
+ghost use Rattle.rule_read.specs.Parts.{testIn, assignIn, ruleOf};
+ghost use Rattle.rule_check.specs.RuleCheckInner.{Lies, Fitted, testBad, assignBad, letterLeft, takenAt, takenIn};
+ghost use Rattle.rule_check.specs.RuleCheckInner.{cellsIn, formsIn, twiceIn, lettersIn, numberWith};
 
 mod fields;
 
@@ -50,7 +48,7 @@ fn test_cells_bad(s: &[u8], p: usize, t: usize, k: u8) -> bool
 {
     let mut bad = false;
     for j in 0..t {
-        let x = parts::read_test(s, p + 12 * j);
+        let x = rule_read::read_test(s, p + 12 * j);
         bad = fields::test_cell_bad(x, k) | bad;
     }
     bad
@@ -62,7 +60,7 @@ fn assign_cells_bad(s: &[u8], p: usize, a: usize, k: u8) -> bool
 {
     let mut bad = false;
     for j in 0..a {
-        let x = parts::read_assign(s, p + 20 * j);
+        let x = rule_read::read_assign(s, p + 20 * j);
         bad = fields::assign_cell_bad(x, k) | bad;
     }
     bad
@@ -70,11 +68,11 @@ fn assign_cells_bad(s: &[u8], p: usize, a: usize, k: u8) -> bool
 
 fn test_forms_bad(s: &[u8], p: usize, t: usize, room: usize) -> bool
     requires { ⌜ (room ≤ 8) × (p + 12 * room ≤ length (now s)) ⌝ }
-    ensures { λ r. ⌜ r ≡ some room (λ j. slotted (ltb j t) (testFormBad (testIn (now (s .entry)) (p + 12 * j))) (testSlotBad (testIn (now (s .entry)) (p + 12 * j)))) ⌝ }
+    ensures { λ r. ⌜ r ≡ some room (testBad (now (s .entry)) p t) ⌝ }
 {
     let mut bad = false;
     for j in 0..room {
-        let x = parts::read_test(s, p + 12 * j);
+        let x = rule_read::read_test(s, p + 12 * j);
         let counted = j < t;
         bad = ((counted & fields::test_form_bad(x)) | (!counted & fields::test_slot_bad(x))) | bad;
     }
@@ -83,11 +81,11 @@ fn test_forms_bad(s: &[u8], p: usize, t: usize, room: usize) -> bool
 
 fn assign_forms_bad(s: &[u8], p: usize, a: usize, room: usize) -> bool
     requires { ⌜ (room ≤ 8) × (p + 20 * room ≤ length (now s)) ⌝ }
-    ensures { λ r. ⌜ r ≡ some room (λ j. slotted (ltb j a) (assignFormBad (assignIn (now (s .entry)) (p + 20 * j))) (assignSlotBad (assignIn (now (s .entry)) (p + 20 * j)))) ⌝ }
+    ensures { λ r. ⌜ r ≡ some room (assignBad (now (s .entry)) p a) ⌝ }
 {
     let mut bad = false;
     for j in 0..room {
-        let x = parts::read_assign(s, p + 20 * j);
+        let x = rule_read::read_assign(s, p + 20 * j);
         let counted = j < a;
         bad = ((counted & fields::assign_form_bad(x)) | (!counted & fields::assign_slot_bad(x)))
             | bad;
@@ -97,7 +95,7 @@ fn assign_forms_bad(s: &[u8], p: usize, a: usize, room: usize) -> bool
 
 fn letters_left(s: &[u8], p: usize, m: usize, room: usize) -> bool
     requires { ⌜ (room ≤ 16) × (p + room ≤ length (now s)) ⌝ }
-    ensures { λ r. ⌜ r ≡ some room (λ j. not (ltb j m) && notZero (byteAt (now (s .entry)) (p + j))) ⌝ }
+    ensures { λ r. ⌜ r ≡ some room (letterLeft (now (s .entry)) p m) ⌝ }
 {
     let mut bad = false;
     for j in 0..room {
@@ -120,7 +118,7 @@ fn letters_bad(s: &[u8], p: usize, m: usize) -> bool
 // Whether assignment j has the target of an earlier one.
 fn target_taken(s: &[u8], p: usize, j: usize) -> bool
     requires { ⌜ (j < 8) × (p + 20 * j < length (now s)) ⌝ }
-    ensures { λ r. ⌜ r ≡ some j (λ i. eqb (byteAt (now (s .entry)) (p + 20 * i)) (byteAt (now (s .entry)) (p + 20 * j))) ⌝ }
+    ensures { λ r. ⌜ r ≡ takenAt (now (s .entry)) p j ⌝ }
 {
     let y = s[p + 20 * j];
     let mut bad = false;
@@ -132,7 +130,7 @@ fn target_taken(s: &[u8], p: usize, j: usize) -> bool
 
 fn targets_twice(s: &[u8], p: usize, a: usize) -> bool
     requires { ⌜ (a ≤ 8) × (p + 20 * a ≤ length (now s)) ⌝ }
-    ensures { λ r. ⌜ r ≡ some a (λ j. some j (λ i. eqb (byteAt (now (s .entry)) (p + 20 * i)) (byteAt (now (s .entry)) (p + 20 * j)))) ⌝ }
+    ensures { λ r. ⌜ r ≡ some a (takenAt (now (s .entry)) p) ⌝ }
 {
     let mut bad = false;
     for j in 0..a {
@@ -141,15 +139,23 @@ fn targets_twice(s: &[u8], p: usize, a: usize) -> bool
     bad
 }
 
+// Whether the mask at `at` has a member that is n or more.
+fn mask_beyond(s: &[u8], at: usize, n: u8) -> bool
+    requires { ⌜ (at + 4 ≤ length (now s)) × (n ≤ 32) ⌝ }
+    ensures { λ r. ⌜ r ≡ beyond (u32At (now (s .entry)) at) n ⌝ }
+{
+    mask::beyond(bytes::u32_at(s, at), rule::count(n))
+}
+
 // 6 of the rule whose head is at `at`, with room for t tests, a assignments and m letters after it.
 fn cells_in(s: &[u8], at: usize, t: usize, a: usize, m: usize, n: u8, k: u8) -> bool
     requires { ⌜ Fitted (now s) at t a m × (n ≤ 32) × (k ≤ 32) ⌝ }
-    ensures { λ r. ⌜ r ≡ cellsBad n k (ruleOf (now (s .entry)) at t a m) ⌝ }
+    ensures { λ r. ⌜ r ≡ cellsIn (now (s .entry)) at t n k ⌝ }
 {
-    let ct = rule::count(s[at + 8]);
-    let ca = rule::count(s[at + 9]);
-    mask::beyond(endian::u32_at(s, at), rule::count(k))
-        | mask::beyond(endian::u32_at(s, at + 4), rule::count(n))
+    let ct = rule_read::count_at(s, at + 8);
+    let ca = rule_read::count_at(s, at + 9);
+    mask_beyond(s, at, k)
+        | mask_beyond(s, at + 4, n)
         | test_cells_bad(s, at + 12, ct, k)
         | assign_cells_bad(s, at + 12 + 12 * t, ca, k)
 }
@@ -157,11 +163,11 @@ fn cells_in(s: &[u8], at: usize, t: usize, a: usize, m: usize, n: u8, k: u8) -> 
 // 7 of that rule.
 fn forms_in(s: &[u8], at: usize, t: usize, a: usize, m: usize) -> bool
     requires { ⌜ Fitted (now s) at t a m ⌝ }
-    ensures { λ r. ⌜ r ≡ formsBad (ruleOf (now (s .entry)) at t a m) ⌝ }
+    ensures { λ r. ⌜ r ≡ formsIn (now (s .entry)) at t a m ⌝ }
 {
-    let ct = rule::count(s[at + 8]);
-    let ca = rule::count(s[at + 9]);
-    let cm = rule::count(s[at + 10]);
+    let ct = rule_read::count_at(s, at + 8);
+    let ca = rule_read::count_at(s, at + 9);
+    let cm = rule_read::count_at(s, at + 10);
     test_forms_bad(s, at + 12, ct, t)
         | assign_forms_bad(s, at + 12 + 12 * t, ca, a)
         | letters_left(s, at + 12 + 12 * t + 20 * a, cm, m)
@@ -170,17 +176,21 @@ fn forms_in(s: &[u8], at: usize, t: usize, a: usize, m: usize) -> bool
 // 8 of that rule.
 fn twice_in(s: &[u8], at: usize, t: usize, a: usize, m: usize) -> bool
     requires { ⌜ Fitted (now s) at t a m ⌝ }
-    ensures { λ r. ⌜ r ≡ twice (ruleOf (now (s .entry)) at t a m) ⌝ }
+    ensures { λ r. ⌜ r ≡ twiceIn (now (s .entry)) at t ⌝ }
 {
-    targets_twice(s, at + 12 + 12 * t, rule::count(s[at + 9]))
+    targets_twice(s, at + 12 + 12 * t, rule_read::count_at(s, at + 9))
 }
 
 // 9 of that rule, first half.
 fn letters_in(s: &[u8], at: usize, t: usize, a: usize, m: usize) -> bool
     requires { ⌜ Fitted (now s) at t a m ⌝ }
-    ensures { λ r. ⌜ r ≡ lettersBad (ruleOf (now (s .entry)) at t a m) ⌝ }
+    ensures { λ r. ⌜ r ≡ lettersIn (now (s .entry)) at t a ⌝ }
 {
-    letters_bad(s, at + 12 + 12 * t + 20 * a, rule::count(s[at + 10]))
+    letters_bad(
+        s,
+        at + 12 + 12 * t + 20 * a,
+        rule_read::count_at(s, at + 10),
+    )
 }
 
 // Its number, or 0, where it is known whether an earlier rule has its name.

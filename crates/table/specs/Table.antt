@@ -1,4 +1,4 @@
--- A table in memory: its rules, and who goes before whom. Assumes nothing.
+-- A table in memory: its rules, and who goes before whom.
 use mathlib.Core.Bool.{Bool}
 use mathlib.Core.List.{List}
 use Prim.Native.Nat.{ℕ}
@@ -6,7 +6,7 @@ use lib.ListN.{getD, replicate}
 use Rattle.graph.specs.Graph.{Leads, leads}
 use Rattle.rule.specs.declared.Rule.{Rule}
 use Rattle.rule.specs.Fill.{filled}
-use Rattle.rule.specs.Empty.{noRule, blankRule}
+use Rattle.rule.specs.Empty.{noRule}
 
 -- n rules, k cells, and 32 rule slots. In code a table is its bytes: `tableFrom` of Memory ties the two.
 pub record Table : Type 0 where
@@ -20,15 +20,11 @@ noTable = record { n = 0; k = 0; rules = replicate 32 noRule }
 
 -- rule i of a table
 abbrev pub ruleAt : Table → ℕ → Rule
-ruleAt t i = getD (t .rules) i blankRule
+ruleAt t i = getD (t .rules) i noRule
 
 -- the row of the rules' precedes masks
 abbrev pub precedesOf : Table → List ℕ
 precedesOf t = filled 32 0 (λ i. ruleAt t i .precedes) (t .n)
-
--- the row of the rules' watch masks
-abbrev pub watchesOf : Table → List ℕ
-watchesOf t = filled 32 0 (λ i. ruleAt t i .watch) (t .n)
 
 -- "r goes before s when r's precedes mask names s, directly or through others"
 abbrev pub GoesBefore : Table → ℕ → ℕ → Type 0

@@ -2,14 +2,14 @@
 ghost use mathlib.Core.Path.{_≡_};
 ghost use Prim.Native.Nat.{ℕ, _+_, _*_, _≤_, _<_};
 ghost use lib.ListN.{length, getD, replicate};
-ghost use Rattle.mask.specs.Search.{some};
 ghost use Rattle.mask.specs.Mask.{has};
-ghost use Rattle.graph.specs.Graph.{leads};
-ghost use Rattle.endian.specs.Little.{byteAt};
-ghost use Rattle.table.specs.Table.{precedesOf, watchesOf, goesBefore};
+ghost use Rattle.graph.specs.Graph.{cyclic};
+ghost use Rattle.bytes.specs.Little.{byteAt};
+ghost use Rattle.table.specs.Table.{precedesOf, goesBefore};
+ghost use Rattle.table.specs.TableInner.{watchesOf};
 ghost use Rattle.table.specs.Check.{sizesBad, firstSlot, checkOf};
 ghost use Rattle.table.specs.Memory.{tableFrom};
-ghost use Rattle.table.specs.Image.{Sizes, judged, anySet};
+ghost use Rattle.table.specs.TableInner.{Sizes, judged, anySet};
 
 // A number of the paper with its place.
 pub struct Answer {
@@ -32,8 +32,8 @@ fn judge(s: &[u8], n: u8, k: u8, row: &mut [u32; 32]) -> Answer
     let mut names = [0u64; 64];
     for i in 0..rule::count(n) {
         let at = 4 + 284 * i;
-        let low = endian::u64_at(s, at + 268);
-        let high = endian::u64_at(s, at + 276);
+        let low = bytes::u64_at(s, at + 268);
+        let high = bytes::u64_at(s, at + 276);
         let c = rule_check::number_in(
             s,
             at,
@@ -52,7 +52,7 @@ fn judge(s: &[u8], n: u8, k: u8, row: &mut [u32; 32]) -> Answer
         }
         names[2 * i] = low;
         names[2 * i + 1] = high;
-        row[i] = endian::u32_at(s, at + 4);
+        row[i] = bytes::u32_at(s, at + 4);
     }
     Answer {
         number: 0,
@@ -95,7 +95,7 @@ pub fn watches(s: &[u8], n: usize) -> [u32; 32]
     requires { ⌜ (length (now s) ≡ 9092) × (n ≡ byteAt (now s) 1) × (n ≤ 32) ⌝ }
     ensures { λ q. ⌜ q ≡ watchesOf (tableFrom (now (s .entry))) ⌝ }
 {
-    parts::column(s, 4, 284, n)
+    rule_read::column(s, 4, 284, n)
 }
 
 // The row of the rules' precedes masks.
@@ -103,7 +103,7 @@ pub fn precedes(s: &[u8], n: usize) -> [u32; 32]
     requires { ⌜ (length (now s) ≡ 9092) × (n ≡ byteAt (now s) 1) × (n ≤ 32) ⌝ }
     ensures { λ q. ⌜ q ≡ precedesOf (tableFrom (now (s .entry))) ⌝ }
 {
-    parts::column(s, 8, 284, n)
+    rule_read::column(s, 8, 284, n)
 }
 
 // Mask r of the result: the rules that r goes before.
@@ -117,7 +117,7 @@ pub fn goes_before(s: &[u8], n: usize) -> [u32; 32]
 // Whether a row of masks has a cycle among the first n.
 pub fn row_cyclic(row: [u32; 32], n: usize) -> bool
     requires { ⌜ n ≤ 32 ⌝ }
-    ensures { λ r. ⌜ r ≡ some n (λ x. leads row n x x) ⌝ }
+    ensures { λ r. ⌜ r ≡ cyclic n row ⌝ }
 {
     let on = graph::loops(graph::closure(row, n));
     mask::meets(on, mask::below(n))

@@ -1,5 +1,5 @@
 //! The calls of include/gwaunidor.h, declared here and nowhere else. Nothing
-//! checks these lines against the header or the crate `abi`: keep them alike.
+//! checks these lines against the header or the crate `gwaunidor`: keep them alike.
 
 /// The bytes of a table in memory.
 pub const TABLE_BYTES: usize = 9_092;

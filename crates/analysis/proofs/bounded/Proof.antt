@@ -1,20 +1,21 @@
 -- The two rows are those of the table's masks, and the bound asks for no other.
 use mathlib.Core.Path.{_≡_, sym, subst}
 use native.Mathlib.Omega.{arith}
-use Rattle.endian.specs.Stands.{Bytes}
+use Rattle.bytes.specs.EachByte.{Bytes}
 use Rattle.table.specs.Memory.{tableFrom}
-use Rattle.pairs.specs.declared.Masks.{Masks}
-use Rattle.pairs.specs.Lent.{triggering}
-use Rattle.judging.specs.Cleared.{Orderly}
-use Rattle.judging.specs.Bound.{Bounded}
-use Rattle.judging.specs.BoundLaws.{triggering-orderly, bounded-in}
-use Rattle.analysis.specs.Masks.{masksOf, Lies}
-use Rattle.analysis.specs.MasksLaws.{few-from, orderly-from, triggering-from}
+use Rattle.analysis_pairs.specs.declared.Masks.{Masks}
+use Rattle.analysis_pairs.specs.AnalysisPairsInner.{triggering}
+use Rattle.analysis_masks.specs.AnalysisMasksInner.{Orderly}
+use Rattle.analysis_masks.specs.Bound.{Bounded}
+use Rattle.analysis_masks.proofs.BoundLaws.{triggering-orderly, bounded-in}
+use Rattle.analysis.specs.TableMasks.{masksOf}
+use Rattle.analysis.specs.AnalysisInner.{SoundBytes}
+use Rattle.analysis.proofs.TableMasksLaws.{few-from, orderly-from, triggering-from}
 use borrow.Author.Needs.{needs}
 use Rattle.analysis.proofs.bounded.Statement.{statement}
 use Rattle.analysis.proofs.bounded.Tie as tie
 
-lies : (c : tie.After-count) → Lies (c .before .before .before .args .s .now) (c .count .result)
+lies : (c : tie.After-count) → SoundBytes (c .before .before .before .args .s .now) (c .count .result)
 lies c =
     let s = c .before .before .before in
     record { size = s .pre .0; sound = s .pre .1; count = c .count .ensures .0 }

@@ -1,20 +1,21 @@
 -- The four rows are those of the table's masks, and they are judged.
 use mathlib.Core.Path.{_≡_, sym, subst}
 use native.Mathlib.Omega.{arith}
-use Rattle.endian.specs.Stands.{Bytes}
+use Rattle.bytes.specs.EachByte.{Bytes}
 use Rattle.table.specs.Memory.{tableFrom}
-use Rattle.pairs.specs.declared.Masks.{Masks}
-use Rattle.pairs.specs.Lent.{masksIn}
-use Rattle.judging.specs.Cleared.{Orderly}
-use Rattle.judging.specs.Report.{Reported}
-use Rattle.judging.specs.Summary.{reportIn}
-use Rattle.analysis.specs.Masks.{masksOf, Lies}
-use Rattle.analysis.specs.MasksLaws.{few-from, orderly-from, rows-from}
+use Rattle.analysis_pairs.specs.declared.Masks.{Masks}
+use Rattle.analysis_pairs.specs.AnalysisPairsInner.{masksIn}
+use Rattle.analysis_masks.specs.AnalysisMasksInner.{Orderly}
+use Rattle.analysis_masks.specs.Report.{Reported}
+use Rattle.analysis_masks.specs.AnalysisMasksInner.{reportIn}
+use Rattle.analysis.specs.TableMasks.{masksOf}
+use Rattle.analysis.specs.AnalysisInner.{SoundBytes}
+use Rattle.analysis.proofs.TableMasksLaws.{few-from, orderly-from, rows-from}
 use borrow.Author.Needs.{needs}
 use Rattle.analysis.proofs.judged.Statement.{statement}
 use Rattle.analysis.proofs.judged.Tie as tie
 
-lies : (c : tie.After-count) → Lies (c .before .before .before .args .s .now) (c .count .result)
+lies : (c : tie.After-count) → SoundBytes (c .before .before .before .args .s .now) (c .count .result)
 lies c =
     let s = c .before .before .before in
     record { size = s .pre .0; sound = s .pre .1; count = c .count .ensures .0 }

@@ -1,33 +1,23 @@
 -- A table with a number is refused by it; any other is judged.
-use mathlib.Core.Path.{_≡_, refl, sym, ap, _∙_, subst}
-use Rattle.table.specs.declared.Answer.{Answer}
-use Rattle.table.specs.Check.{checkOf, Sound}
-use Rattle.table.specs.Sound.{sound-by}
+use mathlib.Core.Path.{refl, sym, subst}
+use Rattle.table.specs.Check.{Sound}
 use Rattle.table.specs.Memory.{tableFrom}
-use Rattle.judging.specs.Report.{Reported}
-use Rattle.judging.specs.Marking.{zeros}
-use Rattle.analysis.specs.Masks.{masksOf}
-use Rattle.analysis.specs.Says.{refusedReport}
-use Rattle.analysis.specs.SaysLaws.{sound-reports}
+use Rattle.analysis_masks.specs.Report.{Reported}
+use Rattle.analysis_masks.specs.AnalysisMasksInner.{noMarks}
+use Rattle.analysis.specs.TableMasks.{masksOf}
+use Rattle.analysis.proofs.SaysLaws.{refuses, sound-checked, sound-reports}
 use borrow.Author.Needs.{needs}
 use Rattle.analysis.proofs.report.Statement.{statement}
 use Rattle.analysis.proofs.report.Tie as tie
 
 returns : tie.Need-returns
-returns c =
-    let t = tableFrom (c .before .before .before .before .args .table .now) in
-    let a : c .before .before .before .check .result ≡ checkOf t = c .before .before .before .check .ensures in
-    record {
-      refused = λ ne. c .no-report .ensures ∙ ap (λ (x : Answer). refusedReport (x .number) (x .place)) a;
-      done = λ e. absurd (c .before .if1 .taken (ap (λ (x : Answer). x .number) a ∙ e));
-    }
+returns c = rw (c .no-report .ensures) (refuses (c .before .before .before .check .ensures) (c .before .if1 .taken))
 
--- a table with no number is sound
 sound : (c : tie.Else1) → Sound (tableFrom (c .before .before .before .args .table .now))
-sound c = sound-by _ (sym (ap (λ (x : Answer). x .number) (c .before .before .check .ensures)) ∙ c .if1 .left)
+sound c = sound-checked (c .before .before .check .ensures) (c .if1 .left)
 
 judged-requires : tie.Need-judged-requires
-unfolding zeros
+unfolding noMarks
 judged-requires c κs = (search needs, sound (c .before .before), refl)
 
 returns-2 : tie.Need-returns-2

@@ -1,8 +1,12 @@
--- The test on the length comes first; the others are the definition's own.
-use Prim.Native.Nat.{_<_, _≤_}
+-- A length under 12 is not the body's; the other tests are the definition's own.
+use mathlib.Core.Path.{sym, ap, _∙_}
+use mathlib.Core.Bool.{Bool, not, _||_, or-true}
 use native.Mathlib.Omega.{arith}
-use borrow.Author.Tests.{lt-ltb, le-ltb}
-use Rattle.book_read.specs.Read.{lengthOf, bodyBad}
+use borrow.Author.Tests.{ne-eqb}
+use Rattle.rule.specs.Numbers.{countsBad}
+use Rattle.table.specs.BodyStarts.{bodySize}
+use Rattle.book_read.specs.Read.{lengthOf}
+use Rattle.book_read.specs.BookReadInner.{bodyIn, bodyBad}
 use borrow.Author.Needs.{needs}
 use Rattle.book_read.proofs.body_bad.Statement.{statement}
 use Rattle.book_read.proofs.body_bad.Tie as tie
@@ -10,36 +14,31 @@ use Rattle.book_read.proofs.body_bad.Tie as tie
 returns : tie.Need-returns
 unfolding bodyBad
 returns c =
-    let a = c .before .before .before .before .before .before .args in
-    let h : lengthOf (a .s .now) (a .i) < 12 = omega (arith, c .before .wide2 .ensures .0, c .before .before .u16-at2 .ensures) in
-    rw (lt-ltb _ _ h)
+    let a = c .before .before .before .before .before .args in
+    let r = bodyIn (a .s .now) (a .i) in
+    sym (ap (λ (b : Bool). countsBad r || not b)
+    (ne-eqb (lengthOf (a .s .now) (a .i)) (bodySize r) (λ e. omega (arith, c .before .wide .ensures .0, c .before .before .u16-at .ensures)))
+    ∙ or-true (countsBad r))
 
 returns-2 : tie.Need-returns-2
-unfolding bodyBad
+unfolding bodyBad countsBad
 returns-2 c =
     let w1 = c .before .before .before .before .before in
     let l2 = w1 .before .before .before in
     let l1 = l2 .before .before in
-    let a = l1 .before .before .before .args in
-    let h : 12 ≤ lengthOf (a .s .now) (a .i) = omega (arith, l2 .wide2 .ensures .0, l2 .before .u16-at2 .ensures) in
     rw (
-      le-ltb _ _ h,
       c .before .count3 .ensures .0,
       c .before .before .before .count2 .ensures .0,
       w1 .count .ensures .0,
-      l2 .wide2 .ensures .0,
-      l2 .before .u16-at2 .ensures,
-      l1 .wide .ensures .0,
-      l1 .before .u16-at .ensures,
+      l2 .wide .ensures .0,
+      l2 .before .u16-at .ensures,
+      l1 .start .ensures .0,
     )
 
 pub body-bad-spec : {M : Type 1} → statement M
 body-bad-spec =
     tie.close
     (tie.spec
-    (λ c. search needs)
-    (λ c. search needs)
-    (λ c κs. search needs)
     (λ c κs. search needs)
     (λ c. search needs)
     (λ c. search needs)

@@ -2,19 +2,21 @@
 use mathlib.Core.Path.{_≡_, refl, ap₂, _∙_}
 use mathlib.Core.Bool.{not}
 use Prim.Native.Nat.{ℕ, _+_, _*_, _≤_, _-_}
-use native.Mathlib.Numerals.{add-one}
 use native.Mathlib.Omega.{arith}
 use lib.Dec.{eqb}
 use borrow.Author.Tests.{lt-ltb, le-ltb}
-use Rattle.mask.specs.Loops.{Sought, sought-none, sought-more, sought-all}
-use Rattle.book_read.specs.Read.{startOf, endOf, contentsBad}
+use Rattle.mask.proofs.LoopsLaws.{Sought, sought-none, sought-more, sought-all}
+use Rattle.table.specs.BodyStarts.{startAt}
+use Rattle.table.proofs.BodyStartsLaws.{start-more}
+use Rattle.book_read.specs.Read.{startOf, lengthOf, contentsBad}
 use borrow.Author.Needs.{needs}
 use Rattle.book_read.proofs.contents_bad.Statement.{statement}
 use Rattle.book_read.proofs.contents_bad.Tie as tie
 
 abbrev Inv-loop : tie.InvT-loop
 Inv-loop s n end₀ bad₀ i₀ end bad i =
-    (i ≤ n) × (end ≡ endOf s n i) × (end ≤ 4 + 4 * n + 65535 * i) × Sought (λ j. not (eqb (startOf s j) (endOf s n j))) i bad
+    (i ≤ n) × (end ≡ startAt n (lengthOf s) i) × (end ≤ 4 + 4 * n + 65535 * i)
+    × Sought (λ j. not (eqb (startOf s j) (startAt n (lengthOf s) j))) i bad
 
 abbrev μ-loop : tie.MeasureT-loop
 μ-loop s n end₀ bad₀ i₀ end bad i = n - i
@@ -24,6 +26,7 @@ unfolding contentsBad
 returns c = rw (lt-ltb _ _ (c .if1 .taken))
 
 loop-holds : tie.Need-loop-holds Inv-loop μ-loop
+unfolding startAt
 loop-holds c = (search needs, refl, search needs, sought-none)
 
 loop-again : tie.Need-loop-again Inv-loop μ-loop
@@ -31,7 +34,7 @@ loop-again c =
     let d = c .before .before in
     let l = d .before .before .before .loop in (
       search needs,
-      rw (add-one, l .inv .1, c .wide2 .ensures .0, c .before .u16-at2 .ensures),
+      rw (start-more, l .inv .1, c .wide2 .ensures .0, c .before .u16-at2 .ensures),
       search needs,
       sought-more (l .inv .3)
           (ap₂ (λ (x y : ℕ). not (eqb x y)) (d .wide .ensures .0 ∙ d .before .u16-at .ensures) (l .inv .1)),

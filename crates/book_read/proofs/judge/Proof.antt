@@ -3,9 +3,10 @@ use mathlib.Core.Path.{_≡_, sym, ap, _∙_}
 use mathlib.Core.Bool.{false}
 use borrow.Author.Tests.{lt-ltb, le-ltb}
 use Rattle.table.specs.Check.{sizesBad}
-use Rattle.table.specs.Sound.{Sized, sized}
-use Rattle.book_read.specs.Read.{nOf, kOf, lengthBad, contentsBad, readOf}
-use Rattle.book_read.specs.Inside.{fitting, inside}
+use Rattle.table.proofs.SoundLaws.{Sized, sized}
+use Rattle.book_read.specs.Read.{lengthBad, contentsBad, readOf}
+use Rattle.book_read.specs.BookReadInner.{nOf, kOf, bodiesOf}
+use Rattle.book_read.proofs.InsideLaws.{fitting, inside}
 use borrow.Author.Needs.{needs}
 use Rattle.book_read.proofs.judge.Statement.{statement}
 use Rattle.book_read.proofs.judge.Tie as tie
@@ -78,10 +79,11 @@ judge-bodies-requires : tie.Need-judge-bodies-requires
 judge-bodies-requires c κs =
     let e = c .before .before .before in
     let s = e .before .before .before .before .before .before .before .before .before .before .args .book .now in
-    (search needs, search needs, sizes e .cells, inside s (nOf s) (sizes e .rules) (fitting s (nOf s) (contents (c .before) ∙ c .if5 .left)))
+    let f = fitting s (nOf s) (contents (c .before) ∙ c .if5 .left) in
+    (search needs, search needs, sizes e .cells, inside s (nOf s) (sizes e .rules) f)
 
 returns-6 : tie.Need-returns-6
-unfolding readOf
+unfolding readOf bodiesOf
 returns-6 c =
     let e = c .before .before .before .before in
     let d = e .before .before in

@@ -1,27 +1,27 @@
 -- The rules passed have no number, and the rows hold their names and masks; each return is the case of `bodiesOf` that its tests leave.
-use mathlib.Core.Path.{_≡_, refl, sym, ap, ap₂, _∙_, subst}
+use mathlib.Core.Path.{_≡_, refl, sym, ap, ap₂, _∙_, subst, subst₂}
 use mathlib.Core.Bool.{Bool, true, false, cond}
 use mathlib.Core.List.{List}
 use Prim.Native.Nat.{ℕ, _+_, _*_, _<_, _≤_, _-_}
 use native.Mathlib.Omega.{arith}
 use lib.ListN.{length, set}
-use Rattle.mask.specs.Search.{some}
-use Rattle.mask.specs.Loops.{Passed, passed-none, passed-more}
-use Rattle.graph.specs.Graph.{leads}
-use Rattle.endian.specs.Stands.{Bytes}
-use Rattle.endian.specs.Little.{u64At}
+use Rattle.mask.proofs.LoopsLaws.{Passed, passed-none, passed-more}
+use Rattle.graph.specs.Graph.{cyclic}
+use Rattle.bytes.specs.EachByte.{Bytes}
+use Rattle.bytes.specs.Little.{u32At, u64At}
 use Rattle.rule.specs.declared.Rule.{Rule}
-use Rattle.rule.specs.Fill.{filled, filled-more}
+use Rattle.rule.specs.Fill.{filled}
+use Rattle.rule.proofs.FillLaws.{filled-more}
 use Rattle.rule.specs.Numbers.{notZero, ruleNumber}
-use Rattle.rule_check.specs.With.{numberWith}
-use Rattle.rule_check.specs.Names.{takenIn}
-use Rattle.rule_check.specs.NamesLaws.{Named, named-none, named-more, number-named}
-use Rattle.table.specs.Table.{ruleAt, goesBefore}
-use Rattle.table.specs.Check.{cyclic}
-use Rattle.book_read.specs.Read.{Reading, nOf, kOf, bodyBad, numberIn, tableIn, refusal, taken}
-use Rattle.book_read.specs.ReadLaws.{bodyIn, rule-in, number-body, refused-at, none-refused}
-use Rattle.book_read.specs.Spread.{told, Body}
-use Rattle.book_read.specs.JudgeLaws.{body-long, body-bytes, number-of}
+use Rattle.rule_check.specs.RuleCheckInner.{numberWith, takenIn}
+use Rattle.rule_check.proofs.NamesLaws.{Named, named-none, named-more, number-named}
+use Rattle.table.specs.Table.{ruleAt, precedesOf}
+use Rattle.book_read.specs.Read.{ruleIn, numberIn, tableIn, refusal, taken}
+use Rattle.book_read.specs.BookReadInner.{nOf, kOf, bodyIn, bodyBad, Stretch, bodiesOf}
+use Rattle.book_read.proofs.ReadLaws.{rule-in, number-body, number-good, refused-at, none-refused}
+use Rattle.book_read.specs.Spread.{told}
+use Rattle.book_read.proofs.InsideLaws.{counts, room}
+use Rattle.book_read.proofs.JudgeLaws.{body-long, body-bytes}
 use borrow.Author.Needs.{needs}
 use Rattle.book_read.proofs.judge_bodies.Statement.{statement}
 use Rattle.book_read.proofs.judge_bodies.Tie as tie
@@ -37,9 +37,6 @@ abbrev μ-loop : tie.MeasureT-loop
 
 loop-holds : tie.Need-loop-holds Inv-loop μ-loop
 loop-holds c = (search needs, c .count .ensures .0, search needs, refl, passed-none, named-none _ _)
-
-subst₂ : (P : ℕ → ℕ → Type 0) {x x′ y y′ : ℕ} → x ≡ x′ → y ≡ y′ → P x y → P x′ y′
-subst₂ P {x} {x′} {y} {y′} e f p = subst (λ (v : ℕ). P x′ v) f (subst (λ (v : ℕ). P v y) e p)
 
 -- in a turn, rule i is one of the book's
 module _ (c : tie.In-loop Inv-loop μ-loop) where
@@ -67,31 +64,40 @@ cast-refused c = omega (arith, small (c .before .before))
 returns : tie.Need-returns Inv-loop μ-loop
 returns c =
     let d = c .before .before .before in
+    let l = d .before .loop in
     let s = book d in
-    let e : bodyBad s (d .before .loop .i) ≡ true = sym (c .before .before .body-bad .ensures) ∙ c .before .if1 .taken in
+    let e : bodyBad s (l .i) ≡ true = sym (c .before .before .body-bad .ensures) ∙ c .before .if1 .taken in
     c .refused .ensures
     ∙ ap told
-    (sym (refused-at s (d .before .loop .i) (d .before .loop .inv .4) 5 (low d) (number-body s (d .before .loop .i) e) (λ z. omega arith)))
+    (sym (refused-at s (l .i) (l .inv .4) 5 (low d) (number-body s (l .i) (low d) e) (λ z. omega arith)))
 
 -- past the first test the body is good
 good : (c : tie.Else1 Inv-loop μ-loop) → bodyBad (book (c .before .before)) (c .before .before .before .loop .i) ≡ false
 good c = sym (c .before .body-bad .ensures) ∙ c .if1 .left
 
--- it lies in the bytes
-lies : (c : tie.Else1 Inv-loop μ-loop) → Body (book (c .before .before)) (c .before .before .before .loop .i)
+start-requires : tie.Need-start-requires Inv-loop μ-loop
+start-requires c κs = let d = c .before .before in (small d, omega (arith, d .before .before .before .before .pre .3 .contents))
+
+-- it has room in the bytes
+lies : (c : tie.After-start Inv-loop μ-loop) → Stretch (book (c .before .before .before)) (c .start .result)
 lies c =
-    let d = c .before .before in
-    let p = d .before .before .before .before .pre .3 in
-    let l : d .before .loop .i < d .before .before .before .before .args .n = omega (arith, d .before .loop .inv .1) in
-    record { small = small d; entry = omega (arith, p .contents); inside = p .bodies (d .before .loop .i) l; good = good c }
+    let d = c .before .before .before in
+    let s = book d in
+    let i = d .before .loop .i in
+    let l : i < d .before .before .before .before .args .n = omega (arith, d .before .loop .inv .1) in
+    subst (Stretch s) (sym (c .start .ensures .0))
+    (room s i (d .before .before .before .before .pre .3 .bodies i l) (counts s i (good (c .before))))
 
 -- the name that was read
 module _ (c : tie.After-name-of Inv-loop μ-loop) where
   abbrev turn : tie.In-loop Inv-loop μ-loop
-  turn = c .before .before .before
+  turn = c .before .before .before .before
+
+  named : c .name-of .result ≡ bodyIn (book turn) (turn .before .loop .i) .name
+  named = c .name-of .ensures ∙ ap (λ (p : ℕ). ruleIn (book turn) p .name) (c .before .start .ensures .0)
 
   long : length (c .name-of .result) ≡ 16
-  long = ap (λ (x : List ℕ). length x) (c .name-of .ensures) ∙ body-long (book turn) (turn .before .loop .i) (good (c .before))
+  long = ap (λ (x : List ℕ). length x) named ∙ body-long (book turn) (turn .before .loop .i) (good (c .before .before))
 
 u64-at-requires : tie.Need-u64-at-requires Inv-loop μ-loop
 u64-at-requires c κs = omega (arith, long (c .before))
@@ -105,7 +111,7 @@ taken-requires c κs = omega (arith, small (turn (c .before .before .before .bef
 number-of-requires : tie.Need-number-of-requires Inv-loop μ-loop
 number-of-requires c κs =
     let e = c .before .before .before .before .before .before .before in
-    let z = e .before .before .before .before .before .before in
+    let z = e .before .before .before .before .before .before .before in
     (lies e, z .pre .3 .few, z .pre .2)
 
 module _ (c : tie.After-number-of Inv-loop μ-loop) where
@@ -116,16 +122,16 @@ module _ (c : tie.After-number-of Inv-loop μ-loop) where
   rule = bodyIn (book (turn body)) (turn body .before .loop .i)
 
   letters : Bytes (rule .name)
-  letters = body-bytes (book (turn body)) (turn body .before .loop .i) (good (body .before)) (bytes (turn body))
+  letters = body-bytes (book (turn body)) (turn body .before .loop .i) (good (body .before .before)) (bytes (turn body))
 
   whole-name : length (rule .name) ≡ 16
-  whole-name = body-long (book (turn body)) (turn body .before .loop .i) (good (body .before))
+  whole-name = body-long (book (turn body)) (turn body .before .loop .i) (good (body .before .before))
 
   low-word : c .before .before .before .before .before .u64-at .result ≡ u64At (rule .name) 0
-  low-word = c .before .before .before .before .before .u64-at .ensures ∙ ap (λ (x : List ℕ). u64At x 0) (body .name-of .ensures)
+  low-word = c .before .before .before .before .before .u64-at .ensures ∙ ap (λ (x : List ℕ). u64At x 0) (named body)
 
   high-word : c .before .before .before .u64-at2 .result ≡ u64At (rule .name) 8
-  high-word = c .before .before .before .u64-at2 .ensures ∙ ap (λ (x : List ℕ). u64At x 8) (body .name-of .ensures)
+  high-word = c .before .before .before .u64-at2 .ensures ∙ ap (λ (x : List ℕ). u64At x 8) (named body)
 
   -- the number that was given is the rule's, after the rules before it
   number : let s = book (turn body) in
@@ -135,14 +141,14 @@ module _ (c : tie.After-number-of Inv-loop μ-loop) where
       let z = a .before .before .before in
       let s = book (turn body) in
       c .number-of .ensures
-      ∙ ap (λ (b : Bool). numberWith (z .args .n) (z .args .k) b rule)
-      (c .before .taken .ensures ∙ ap₂ (takenIn (a .loop .names) (a .loop .i)) low-word high-word)
+      ∙ ap₂ (λ (b : Bool) (p : ℕ). numberWith (z .args .n) (z .args .k) b (ruleIn s p))
+      (c .before .taken .ensures ∙ ap₂ (takenIn (a .loop .names) (a .loop .i)) low-word high-word) (body .before .start .ensures .0)
       ∙ number-named (z .args .n) (z .args .k) (a .loop .names) (tableIn s .rules) (a .loop .i) rule
       (a .loop .inv .5) letters whole-name
       ∙ ap₂ (λ (n k : ℕ). ruleNumber n k (tableIn s .rules) (a .loop .i) rule) (z .pre .0) (z .pre .1)
 
   found : numberIn (book (turn body)) (turn body .before .loop .i) ≡ c .number-of .result
-  found = number-of (book (turn body)) (turn body .before .loop .i) (good (body .before)) (low (turn body)) ∙ sym number
+  found = number-good (book (turn body)) (turn body .before .loop .i) (low (turn body)) (good (body .before .before)) ∙ sym number
 
 cast-refused-2 : tie.Need-cast-refused-2 Inv-loop μ-loop
 cast-refused-2 c = omega (arith, small (turn (body (c .before))))
@@ -151,9 +157,9 @@ returns-2 : tie.Need-returns-2 Inv-loop μ-loop
 returns-2 c =
     let w = c .before .before in
     let d = turn (body w) in
+    let l = d .before .loop in
     c .refused2 .ensures
-    ∙ ap told
-    (sym (refused-at (book d) (d .before .loop .i) (d .before .loop .inv .4) (w .number-of .result) (low d) (found w) (c .before .if2 .taken)))
+    ∙ ap told (sym (refused-at (book d) (l .i) (l .inv .4) (w .number-of .result) (low d) (found w) (c .before .if2 .taken)))
 
 module _ (c : tie.Else2 Inv-loop μ-loop) where
   here : turn (body (c .before)) .before .loop .i < 32
@@ -168,8 +174,8 @@ loop-again c =
     let s = book d in
     let i = a .loop .i in
     let mine : ruleAt (tableIn s) i ≡ rule w = rule-in s i (low d) in
-    let e : c .precedes-of .result ≡ ruleAt (tableIn s) i .precedes =
-    c .precedes-of .ensures ∙ ap (λ (x : Rule). x .precedes) (sym mine) in (
+    let e : c .u32-at .result ≡ ruleAt (tableIn s) i .precedes =
+    c .u32-at .ensures ∙ ap (λ (p : ℕ). u32At s (p + 4)) (r .before .start .ensures .0) ∙ ap (λ (x : Rule). x .precedes) (sym mine) in (
       omega (arith, d .loop-test .taken),
       a .loop .inv .1,
       search needs,
@@ -198,35 +204,30 @@ row-cyclic-requires c κs =
     let z = c .before .before .before .before .before in
     omega (arith, c .count2 .ensures .0, z .pre .3 .few)
 
-circles : (c : tie.After-row-cyclic Inv-loop μ-loop) → cyclic (tableIn (whole (c .before .before))) ≡ c .row-cyclic .result
-unfolding cyclic goesBefore tableIn
+circles : (c : tie.After-row-cyclic Inv-loop μ-loop)
+    → let s = whole (c .before .before) in cyclic (nOf s) (precedesOf (tableIn s)) ≡ c .row-cyclic .result
+unfolding tableIn
 circles c =
     let d = c .before .before in
     let z = d .before .before .before .before in
     let s = whole d in
     let f : ℕ → ℕ = λ x. ruleAt (tableIn s) x .precedes in
     sym (c .row-cyclic .ensures
-    ∙ ap₂ (λ (q : List ℕ) (m : ℕ). some m (λ x. leads q m x x)) (d .before .loop .inv .3 ∙ ap (filled 32 0 f) (same d))
-    (c .before .count2 .ensures .0 ∙ z .pre .0))
+    ∙ ap₂ cyclic (c .before .count2 .ensures .0 ∙ z .pre .0) (d .before .loop .inv .3 ∙ ap (filled 32 0 f) (same d)))
 
-abbrev last : List ℕ → Bool → Reading
-last s b = cond b (refusal 10 255) (taken (tableIn s))
+-- no rule has a number: what is left is 10
+ended : (c : tie.After-row-cyclic Inv-loop μ-loop)
+    → let s = whole (c .before .before) in bodiesOf s ≡ cond (c .row-cyclic .result) (refusal 10 255) (taken (tableIn s))
+ended c =
+    let d = c .before .before in
+    let l = d .before .loop in
+    none-refused (whole d) (l .i) (l .inv .4) (all d) ∙ rw (circles c)
 
 returns-3 : tie.Need-returns-3 Inv-loop μ-loop
-returns-3 c =
-    let q = c .before .before in
-    let d = q .before .before in
-    c .refused3 .ensures
-    ∙ ap told
-    (sym (none-refused (whole d) (d .before .loop .i) (d .before .loop .inv .4) (all d) ∙ ap (last (whole d)) (circles q ∙ c .before .if3 .taken)))
+returns-3 c = c .refused3 .ensures ∙ rw (ended (c .before .before), c .before .if3 .taken)
 
 returns-4 : tie.Need-returns-4 Inv-loop μ-loop
-returns-4 c =
-    let q = c .before .before in
-    let d = q .before .before in
-    c .refused4 .ensures
-    ∙ ap told
-    (sym (none-refused (whole d) (d .before .loop .i) (d .before .loop .inv .4) (all d) ∙ ap (last (whole d)) (circles q ∙ c .before .if3 .left)))
+returns-4 c = c .refused4 .ensures ∙ rw (ended (c .before .before), c .before .if3 .left)
 
 pub judge-bodies-spec : {M : Type 1} → statement M
 judge-bodies-spec =
@@ -240,6 +241,7 @@ judge-bodies-spec =
     cast-refused
     (λ c κs. search needs)
     returns
+    start-requires
     (λ c κs. lies c)
     (λ c. search needs)
     u64-at-requires
@@ -257,7 +259,8 @@ judge-bodies-spec =
     (λ c. omega (arith, here c))
     (λ c. omega (arith, here c))
     (λ c. omega (arith, here c))
-    (λ c κs. lies (body (c .before) .before))
+    (λ c. omega (arith, body (c .before) .before .start .ensures .1))
+    (λ c κs. omega (arith, lies (body (c .before) .before) .inside))
     (λ c. omega (arith, here (c .before)))
     (λ c. omega (arith, here (c .before)))
     (λ c. search needs)

@@ -5,7 +5,8 @@ use native.Mathlib.Omega.{arith}
 use lib.ListN.{length, take, drop, replicate, length-drop}
 use lib.Seq.{length-take-le}
 use borrow.Author.Needs.{needs}
-use Rattle.endian.specs.Put.{put, put-next}
+use Rattle.bytes.specs.Put.{put}
+use Rattle.bytes.proofs.PutLaws.{put-next}
 use Rattle.book_read.proofs.put_part.Statement.{statement}
 use Rattle.book_read.proofs.put_part.Tie as tie
 

@@ -3,13 +3,13 @@ use mathlib.Core.Path.{_≡_, sym, ap, _∙_}
 use Prim.Native.Nat.{ℕ}
 use lib.ListN.{length, replicate, length-replicate}
 use borrow.Author.Needs.{needs}
-use Rattle.endian.specs.Put.{put-whole}
+use Rattle.bytes.proofs.PutLaws.{put-whole}
 use Rattle.table.specs.declared.Answer.{Answer}
 use Rattle.table.specs.Memory.{tableBytes}
-use Rattle.table.specs.Zeros.{empty-zeros}
+use Rattle.table.proofs.ZerosLaws.{empty-zeros}
 use Rattle.book_read.specs.Read.{Reading, readOf}
-use Rattle.book_read.specs.ReadLaws.{Taken, read-done}
-use Rattle.book_read.specs.AnswerLaws.{refused-empty, bodies}
+use Rattle.book_read.proofs.ReadLaws.{Taken, read-done}
+use Rattle.book_read.proofs.AnswerLaws.{refused-empty, bodies}
 use Rattle.book_read.proofs.read.Statement.{statement}
 use Rattle.book_read.proofs.read.Tie as tie
 

@@ -4,21 +4,22 @@ use mathlib.Core.List.{List, [], _∷_, _++_}
 use Prim.Native.Nat.{ℕ, _+_, _*_, _<_, _≤_, _-_}
 use native.Mathlib.Omega.{arith}
 use lib.ListN.{length, getD}
-use Rattle.endian.specs.Little.{byteAt}
-use Rattle.endian.specs.Put.{put, put-nil, put-next, put-whole}
-use Rattle.endian.specs.Joined.{joined, put-joined, joined-rest}
+use Rattle.bytes.specs.Put.{put}
+use Rattle.bytes.proofs.PutLaws.{put-nil, put-next, put-whole}
+use Rattle.bytes.specs.Joined.{joined}
+use Rattle.bytes.proofs.JoinedLaws.{put-joined, joined-rest}
 use Rattle.rule.specs.declared.Rule.{Rule}
-use Rattle.rule.specs.Empty.{noRule, blankRule}
-use Rattle.rule.specs.Fill.{getD-left}
-use Rattle.parts.specs.Parts.{Room}
-use Rattle.pieces.specs.Pieces.{slotBytes}
-use Rattle.table.specs.Memory.{rulesBytes, tableBytes}
-use Rattle.table.specs.MemoryLaws.{length-rules, length-table}
-use Rattle.book_read.specs.Read.{nOf, kOf, startOf, ruleIn, tableIn}
-use Rattle.book_read.specs.Inside.{counts, room}
-use Rattle.book_read.specs.ReadLaws.{bodyIn, rule-in}
-use Rattle.pieces.specs.Slots.{zero-slot}
-use Rattle.book_read.specs.SpreadLaws.{zeros}
+use Rattle.rule.specs.Empty.{noRule}
+use Rattle.rule.proofs.FillLaws.{getD-left}
+use Rattle.rule_write.specs.Pieces.{slotBytes}
+use Rattle.table.specs.Memory.{tableBytes}
+use Rattle.table.proofs.MemoryLaws.{rulesBytes, length-rules, length-table}
+use Rattle.book_read.specs.Read.{ruleIn, tableIn}
+use Rattle.book_read.proofs.InsideLaws.{counts, room}
+use Rattle.book_read.specs.BookReadInner.{nOf, kOf, bodyIn, Stretch}
+use Rattle.book_read.proofs.ReadLaws.{rule-in}
+use Rattle.rule_write.proofs.SlotsLaws.{zero-slot}
+use Rattle.book_read.proofs.SpreadLaws.{zeroBytes}
 use borrow.Author.Needs.{needs}
 use Rattle.book_read.proofs.spread.Statement.{statement}
 use Rattle.book_read.proofs.spread.Tie as tie
@@ -40,7 +41,7 @@ module _ (c : tie.After-count Inv-loop μ-loop) where
   few = omega (arith, counted, c .before .before .before .pre .inside .few)
 
 loop-holds : tie.Need-loop-holds Inv-loop μ-loop
-unfolding rulesBytes joined
+unfolding joined
 loop-holds c = (search needs, sym (put-nil (c .put-4 .last .0) 4), search needs)
 
 abbrev at-count : tie.At-loop Inv-loop μ-loop → tie.After-count Inv-loop μ-loop
@@ -51,31 +52,26 @@ module _ (c : tie.In-loop Inv-loop μ-loop) where
   low : c .before .loop .i < nOf (book (at-count (c .before)))
   low = omega (arith, c .loop-test .taken, counted (at-count (c .before)))
 
-u16-at-requires : tie.Need-u16-at-requires Inv-loop μ-loop
-u16-at-requires c κs =
-    omega (arith, low (c .before), at-count (c .before .before) .before .before .before .pre .inside .contents)
-
--- the body's place
-start : (c : tie.After-wide Inv-loop μ-loop)
-    → let d = c .before .before .before in c .wide .result ≡ startOf (book (at-count (d .before))) (d .before .loop .i)
-start c = c .wide .ensures .0 ∙ c .before .u16-at .ensures
+start-requires : tie.Need-start-requires Inv-loop μ-loop
+start-requires c κs =
+    let d = c .before in
+    let k = at-count (d .before) in
+    (omega (arith, low d, few k, counted k), omega (arith, low d, k .before .before .before .pre .inside .contents))
 
 put-body-requires : tie.Need-put-body-requires Inv-loop μ-loop
 put-body-requires c κs =
-    let d = c .before .before .before in
+    let d = c .before .before in
     let s = book (at-count (d .before)) in
     let i = d .before .loop .i in
     let p = at-count (d .before) .before .before .before .pre in (
-      subst (λ (x : ℕ). Room s x (byteAt s (x + 8)) (byteAt s (x + 9)) (byteAt s (x + 10))) (sym (start c))
-          (room s i (p .inside .bodies i (low d)) (counts s i (p .good i (low d)))),
+      subst (Stretch s) (sym (c .start .ensures .0)) (room s i (p .inside .bodies i (low d)) (counts s i (p .good i (low d)))),
       (let f = few (at-count (d .before)) in let g = low d in let h = counted (at-count (d .before)) in search needs),
     )
 
 loop-again : tie.Need-loop-again Inv-loop μ-loop
-unfolding rulesBytes
 loop-again c =
     let w = c .before in
-    let d = w .before .before .before in
+    let d = w .before .before in
     let l = d .before in
     let s = book (at-count l) in
     let rules = tableIn s .rules in
@@ -83,19 +79,19 @@ loop-again c =
     let old = l .before .put-4 .last .0 in
     let few′ = few (at-count l) in
     let n = length-rules rules i in
-    let e : ruleIn s (w .wide .result) ≡ getD rules i blankRule = ap (ruleIn s) (start w) ∙ sym (rule-in s i (low d)) in (
+    let e : ruleIn s (w .start .result) ≡ getD rules i noRule = ap (ruleIn s) (w .start .ensures .0) ∙ sym (rule-in s i (low d)) in (
       search needs,
-      put-joined old 4 (λ j. slotBytes (getD rules j blankRule)) i (l .loop .inv .1) (omega (arith, d .loop-test .taken)) (4 + 284 * i)
+      put-joined old 4 (λ j. slotBytes (getD rules j noRule)) i (l .loop .inv .1) (omega (arith, d .loop-test .taken)) (4 + 284 * i)
           (omega arith) (c .put-body .ensures ∙ ap (λ (r : Rule). put (l .loop .out) (4 + 284 * i) (slotBytes r)) e),
       search needs,
     )
 
 -- the slots past n
-rest : (s : List ℕ) → nOf s ≤ 32 → rulesBytes (tableIn s .rules) (nOf s) ++ zeros (284 * (32 - nOf s)) ≡ rulesBytes (tableIn s .rules) 32
-unfolding rulesBytes tableIn
+rest : (s : List ℕ) → nOf s ≤ 32 → rulesBytes (tableIn s .rules) (nOf s) ++ zeroBytes (284 * (32 - nOf s)) ≡ rulesBytes (tableIn s .rules) 32
+unfolding tableIn
 rest s few =
-    sym (joined-rest 284 32 (nOf s) (λ j. slotBytes (getD (tableIn s .rules) j blankRule)) few
-    (λ j h m. ap slotBytes (getD-left 32 noRule (bodyIn s) (nOf s) blankRule j h m) ∙ zero-slot))
+    sym (joined-rest 284 32 (nOf s) (λ j. slotBytes (getD (tableIn s .rules) j noRule)) few
+    (λ j h m. ap slotBytes (getD-left 32 noRule (bodyIn s) (nOf s) noRule j h m) ∙ zero-slot))
 
 returns : tie.Need-returns Inv-loop μ-loop
 unfolding tableBytes tableIn
@@ -114,11 +110,11 @@ returns c =
     let size : length old ≡ 9092 = search needs in
     let rows : l .loop .out ≡ put (p .put-4 .last .0) 4 (rulesBytes rules (nOf s)) =
     l .loop .inv .1 ∙ ap (λ (i : ℕ). put (p .put-4 .last .0) 4 (rulesBytes rules i)) e in
-    let last : c .put-zeros .last .0 ≡ put (l .loop .out) (4 + 284 * nOf s) (zeros (284 * (32 - nOf s))) =
-    c .put-zeros .ensures ∙ ap (λ (i : ℕ). put (l .loop .out) (4 + 284 * i) (zeros (284 * (32 - i)))) (counted k) in
+    let last : c .put-zeros .last .0 ≡ put (l .loop .out) (4 + 284 * nOf s) (zeroBytes (284 * (32 - nOf s))) =
+    c .put-zeros .ensures ∙ ap (λ (i : ℕ). put (l .loop .out) (4 + 284 * i) (zeroBytes (284 * (32 - i)))) (counted k) in
     let all : c .put-zeros .last .0 ≡ put (p .put-4 .last .0) 4 (rulesBytes rules 32) =
-    put-next (p .put-4 .last .0) 4 (rulesBytes rules (nOf s)) rows (omega (arith, l .loop .inv .2, counted k)) (4 + 284 * nOf s) (omega arith)
-    (zeros (284 * (32 - nOf s))) last
+    put-next (p .put-4 .last .0) 4 (rulesBytes rules (nOf s)) rows (omega (arith, l .loop .inv .2, counted k)) (4 + 284 * nOf s)
+    (omega arith) (zeroBytes (284 * (32 - nOf s))) last
     ∙ ap (put (p .put-4 .last .0) 4) (rest s (z .pre .inside .few)) in
     put-next old 0 head (p .put-4 .ensures) (omega arith) 4 (omega arith) (rulesBytes rules 32) all
     ∙ put-whole old (tableBytes (tableIn s)) (length-table (tableIn s) ∙ sym size)
@@ -137,12 +133,9 @@ spread-spec =
     loop-holds
     (λ c. omega (arith, few (at-count (c .before .before))))
     (λ c. omega (arith, few (at-count (c .before .before))))
-    (λ c. omega (arith, few (at-count (c .before .before))))
-    (λ c. omega (arith, few (at-count (c .before .before))))
-    u16-at-requires
-    (λ c κs. search needs)
+    start-requires
     put-body-requires
-    (λ c. omega (arith, few (at-count (c .before .before .before .before .before))))
+    (λ c. omega (arith, few (at-count (c .before .before .before .before))))
     (λ c. search needs)
     loop-again
     (λ c. omega (arith, few (at-count (c .before .before))))

@@ -3,16 +3,17 @@ use mathlib.Core.Path.{_≡_, refl, ap, _∙_}
 use Prim.Native.Nat.{_+_, _*_, _≤_, _-_}
 use native.Mathlib.Omega.{arith}
 use Rattle.table.specs.Memory.{tableFrom}
-use Rattle.table.specs.ImageLaws.{rule-from}
-use Rattle.book_write.specs.Book.{bodySize, startAt}
-use Rattle.book_write.specs.BookLaws.{start-more}
+use Rattle.table.proofs.ImageLaws.{rule-from}
+use Rattle.table.specs.BodyStarts.{bodySize, startAt}
+use Rattle.table.proofs.BodyStartsLaws.{start-more}
+use Rattle.book_write.specs.BookWriteInner.{sizesOf}
 use borrow.Author.Needs.{needs}
 use Rattle.book_write.proofs.end_of.Statement.{statement}
 use Rattle.book_write.proofs.end_of.Tie as tie
 
 abbrev Inv-loop : tie.InvT-loop
 Inv-loop s n end₀ i₀ end i =
-    (i ≤ n) × (n ≤ 32) × (end ≡ startAt n (tableFrom s .rules) i) × (end ≤ 132 + 8427 * i)
+    (i ≤ n) × (n ≤ 32) × (end ≡ startAt n (sizesOf (tableFrom s .rules)) i) × (end ≤ 132 + 8427 * i)
 
 abbrev μ-loop : tie.MeasureT-loop
 μ-loop s n end₀ i₀ end i = n - i
@@ -26,13 +27,13 @@ loop-again c =
     let l = c .before .before .loop in
     let a = c .before .before .before .before .args in
     let e = ap bodySize (rule-from (a .s .now) (l .i) (omega arith)) in
-    (search needs, search needs, rw (start-more (a .n) (tableFrom (a .s .now) .rules) (l .i)) (omega arith), omega arith)
+    (search needs, search needs, rw (start-more (a .n) (sizesOf (tableFrom (a .s .now) .rules)) (l .i)) (omega arith), omega arith)
 
 returns : tie.Need-returns Inv-loop μ-loop
 returns c =
     let a = c .before .before .before .args in
     let e : c .before .loop .i ≡ a .n = omega arith in
-    c .before .loop .inv .2 ∙ ap (startAt (a .n) (tableFrom (a .s .now) .rules)) e
+    c .before .loop .inv .2 ∙ ap (startAt (a .n) (sizesOf (tableFrom (a .s .now) .rules))) e
 
 pub end-of-spec : {M : Type 1} → statement M
 end-of-spec =

@@ -3,16 +3,17 @@ use mathlib.Core.Path.{_≡_, sym, ap, _∙_}
 use mathlib.Core.List.{List}
 use Prim.Native.Nat.{ℕ}
 use native.Mathlib.Omega.{arith}
-use Rattle.table.specs.Sound.{sound-by}
+use Rattle.table.proofs.SoundLaws.{sound-by}
 use Rattle.table.specs.Table.{Table}
 use Rattle.table.specs.declared.Answer.{Answer}
 use Rattle.table.specs.Check.{checkOf}
 use Rattle.table.specs.Memory.{tableFrom}
-use Rattle.book_write.specs.Book.{startAt}
-use Rattle.book_write.specs.BookLaws.{ready, length-book}
-use Rattle.book_write.specs.BodyLaws.{count-from}
+use Rattle.table.specs.BodyStarts.{startAt}
+use Rattle.book_write.specs.BookWriteInner.{sizesOf}
+use Rattle.book_write.proofs.BookLaws.{ready, length-book}
+use Rattle.book_write.proofs.BodyWriteLaws.{count-from}
 use Rattle.book_write.specs.Write.{written}
-use Rattle.book_write.specs.WriteLaws.{size-refused, size-done}
+use Rattle.book_write.proofs.WriteLaws.{size-refused, size-done}
 use borrow.Author.Needs.{needs}
 use Rattle.book_write.proofs.size.Statement.{statement}
 use Rattle.book_write.proofs.size.Tie as tie
@@ -46,7 +47,7 @@ returns-2 : tie.Need-returns-2
 returns-2 c =
     let d = c .before in
     ap (written 0 255)
-    (c .end-of .ensures ∙ (ap (λ (n : ℕ). startAt n (T d .rules) n) (counted d) ∙ sym (length-book (T d))))
+    (c .end-of .ensures ∙ (ap (λ (n : ℕ). startAt n (sizesOf (T d .rules)) n) (counted d) ∙ sym (length-book (T d))))
     ∙ sym (size-done (T d) (none d))
 
 pub size-spec : {M : Type 1} → statement M

@@ -4,17 +4,19 @@ use mathlib.Core.List.{List}
 use Prim.Native.Nat.{ℕ, _+_, _*_, _≤_}
 use native.Mathlib.Omega.{arith}
 use lib.ListN.{length}
-use Rattle.endian.specs.Put.{put}
-use Rattle.table.specs.Sound.{sound-by}
+use Rattle.bytes.specs.Put.{put}
+use Rattle.table.proofs.SoundLaws.{sound-by}
 use Rattle.table.specs.Table.{Table}
 use Rattle.table.specs.declared.Answer.{Answer}
 use Rattle.table.specs.Check.{checkOf}
 use Rattle.table.specs.Memory.{tableFrom}
-use Rattle.book_write.specs.Book.{startAt, contentsBytes, bodiesBytes, bookOf}
-use Rattle.book_write.specs.BookLaws.{Ready, ready, length-book, length-bodies}
-use Rattle.book_write.specs.BodyLaws.{count-from, head-from}
+use Rattle.table.specs.BodyStarts.{startAt}
+use Rattle.book_write.specs.Book.{bookOf}
+use Rattle.book_write.specs.BookWriteInner.{Ready, sizesOf, contentsBytes, bodiesBytes}
+use Rattle.book_write.proofs.BookLaws.{ready, length-book, length-bodies}
+use Rattle.book_write.proofs.BodyWriteLaws.{count-from, head-from}
 use Rattle.book_write.specs.Write.{written}
-use Rattle.book_write.specs.WriteLaws.{write-refused, write-short, write-done, put-book}
+use Rattle.book_write.proofs.WriteLaws.{write-refused, write-short, write-done, put-book}
 use borrow.Author.Needs.{needs}
 use Rattle.book_write.proofs.write.Statement.{statement}
 use Rattle.book_write.proofs.write.Tie as tie
@@ -55,7 +57,7 @@ end-of-requires c κs = (rules-ready (c .before) .few, search needs)
 size-is : (c : tie.After-end-of) → c .end-of .result ≡ length (bookOf (T (c .before .before)))
 size-is c =
     let d = c .before .before in
-    c .end-of .ensures ∙ (ap (λ (n : ℕ). startAt n (T d .rules) n) (counted d) ∙ sym (length-book (T d)))
+    c .end-of .ensures ∙ (ap (λ (n : ℕ). startAt n (sizesOf (T d .rules)) n) (counted d) ∙ sym (length-book (T d)))
 
 returns-2 : tie.Need-returns-2
 returns-2 c =

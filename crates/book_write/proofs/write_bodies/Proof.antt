@@ -4,16 +4,21 @@ use mathlib.Core.List.{List}
 use Prim.Native.Nat.{ℕ, _+_, _*_, _≤_, _<_, _-_}
 use native.Mathlib.Omega.{arith}
 use lib.ListN.{length, getD}
-use Rattle.endian.specs.Put.{put, put-nil}
-use Rattle.endian.specs.Joined.{joined, put-joined}
+use Rattle.bytes.specs.Put.{put}
+use Rattle.bytes.proofs.PutLaws.{put-nil}
+use Rattle.bytes.specs.Joined.{joined}
+use Rattle.bytes.proofs.JoinedLaws.{put-joined}
 use Rattle.rule.specs.declared.Rule.{Rule}
-use Rattle.rule.specs.Empty.{blankRule}
-use Rattle.rule.specs.NumbersLaws.{Counted}
-use Rattle.pieces.specs.Pieces.{bodyBytes}
-use Rattle.table.specs.Memory.{ruleFrom, tableFrom}
-use Rattle.table.specs.ImageLaws.{rule-from}
-use Rattle.book_write.specs.Book.{bodySize, startAt, bodiesBytes}
-use Rattle.book_write.specs.BookLaws.{start-more, within, length-bodies}
+use Rattle.rule.specs.Empty.{noRule}
+use Rattle.rule.specs.RuleInner.{Counted}
+use Rattle.rule_write.specs.Pieces.{bodyBytes}
+use Rattle.table.specs.Memory.{tableFrom}
+use Rattle.table.specs.TableInner.{ruleFrom}
+use Rattle.table.proofs.ImageLaws.{rule-from}
+use Rattle.table.specs.BodyStarts.{bodySize, startAt}
+use Rattle.table.proofs.BodyStartsLaws.{start-more, starts-within}
+use Rattle.book_write.specs.BookWriteInner.{sizesOf, bodiesBytes}
+use Rattle.book_write.proofs.BookLaws.{length-bodies}
 use borrow.Author.Needs.{needs}
 use Rattle.book_write.proofs.write_bodies.Statement.{statement}
 use Rattle.book_write.proofs.write_bodies.Tie as tie
@@ -21,7 +26,7 @@ use Rattle.book_write.proofs.write_bodies.Tie as tie
 abbrev Inv-loop : tie.InvT-loop
 Inv-loop out₀ s n at₀ i₀ out at i =
     (i ≤ n)
-    × (at ≡ startAt n (tableFrom s .rules) i)
+    × (at ≡ startAt n (sizesOf (tableFrom s .rules)) i)
     × (out ≡ put out₀ (4 + 4 * n) (bodiesBytes (tableFrom s .rules) i))
     × (length out ≡ length out₀)
 
@@ -29,7 +34,7 @@ abbrev μ-loop : tie.MeasureT-loop
 μ-loop out₀ s n at₀ i₀ out at i = n - i
 
 loop-holds : tie.Need-loop-holds Inv-loop μ-loop
-unfolding startAt bodiesBytes joined
+unfolding startAt joined
 loop-holds c =
     let a = c .before .before .args in
     (search needs, refl, sym (put-nil (a .out .now) (4 + 4 * a .n)), search needs)
@@ -47,7 +52,7 @@ module _ (c : tie.In-loop Inv-loop μ-loop) where
   small : c .before .loop .i < 32
   small = omega (arith, c .loop-test .taken, start .pre .0 .few)
 
-  rule-is : getD rules (c .before .loop .i) blankRule ≡ ruleFrom image (c .before .loop .i)
+  rule-is : getD rules (c .before .loop .i) noRule ≡ ruleFrom image (c .before .loop .i)
   rule-is = rule-from image (c .before .loop .i) small
 
   -- the next body lies in the buffer
@@ -59,7 +64,7 @@ module _ (c : tie.In-loop Inv-loop μ-loop) where
         l .inv .1,
         l .inv .3,
         start .pre .2,
-        within (start .args .n) rules (l .i) (c .loop-test .taken),
+        starts-within (start .args .n) (sizesOf rules) (l .i) (c .loop-test .taken),
         ap bodySize rule-is,
       )
 
@@ -75,7 +80,6 @@ add-at-2 : tie.Need-add-at-2 Inv-loop μ-loop
 add-at-2 c = omega (arith, inside (c .before .before .before .before .before), c .body-size .ensures .0)
 
 loop-again : tie.Need-loop-again Inv-loop μ-loop
-unfolding bodiesBytes
 loop-again c =
     let w = c .before .before .before in
     let t = w .before .before in
@@ -86,8 +90,8 @@ loop-again c =
     let room = inside t in
     let e = sym (rule-is t) in (
       search needs,
-      ap₂ _+_ (l .inv .1) (c .body-size .ensures .0 ∙ ap bodySize e) ∙ sym (start-more (a .n) (rules t) i),
-      put-joined (a .out .now) (4 + 4 * a .n) (λ j. bodyBytes (getD (rules t) j blankRule)) i (l .inv .2) (omega arith)
+      ap₂ _+_ (l .inv .1) (c .body-size .ensures .0 ∙ ap bodySize e) ∙ sym (start-more (a .n) (sizesOf (rules t)) i),
+      put-joined (a .out .now) (4 + 4 * a .n) (λ j. bodyBytes (getD (rules t) j noRule)) i (l .inv .2) (omega arith)
           (l .at) (omega arith) (w .write-body .ensures ∙ ap (λ (r : Rule). put (l .out) (l .at) (bodyBytes r)) e),
       search needs,
     )

@@ -2,8 +2,8 @@
 use mathlib.Core.Path.{_∙_}
 use Prim.Native.Nat.{_+_, _*_}
 use native.Mathlib.Omega.{arith}
-use Rattle.endian.specs.Stands.{Bytes}
-use Rattle.book_write.specs.BodyLaws.{put-body}
+use Rattle.bytes.specs.EachByte.{Bytes}
+use Rattle.book_write.proofs.BodyWriteLaws.{put-body}
 use borrow.Author.Needs.{needs}
 use Rattle.book_write.proofs.write_body.Statement.{statement}
 use Rattle.book_write.proofs.write_body.Tie as tie

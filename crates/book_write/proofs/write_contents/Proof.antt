@@ -3,16 +3,19 @@ use mathlib.Core.Path.{_≡_, refl, sym, ap, ap₂, _∙_}
 use mathlib.Core.List.{List, _++_}
 use Prim.Native.Nat.{ℕ, _+_, _*_, _≤_, _<_, _-_}
 use native.Mathlib.Omega.{arith}
-use lib.ListN.{length, getD}
-use Rattle.endian.specs.Put.{put, put-nil}
-use Rattle.endian.specs.Bytes.{u16Bytes}
-use Rattle.endian.specs.Joined.{joined, put-joined}
+use lib.ListN.{length}
+use Rattle.bytes.specs.Put.{put}
+use Rattle.bytes.proofs.PutLaws.{put-nil}
+use Rattle.bytes.specs.Bytes.{u16Bytes}
+use Rattle.bytes.specs.Joined.{joined}
+use Rattle.bytes.proofs.JoinedLaws.{put-joined}
 use Rattle.rule.specs.declared.Rule.{Rule}
-use Rattle.rule.specs.Empty.{blankRule}
 use Rattle.table.specs.Memory.{tableFrom}
-use Rattle.table.specs.ImageLaws.{rule-from}
-use Rattle.book_write.specs.Book.{bodySize, startAt, entryBytes, contentsBytes}
-use Rattle.book_write.specs.BookLaws.{start-more, start-most, length-contents}
+use Rattle.table.proofs.ImageLaws.{rule-from}
+use Rattle.table.specs.BodyStarts.{bodySize, startAt}
+use Rattle.table.proofs.BodyStartsLaws.{start-more}
+use Rattle.book_write.specs.BookWriteInner.{sizesOf, entryBytes, contentsBytes}
+use Rattle.book_write.proofs.BookLaws.{start-most, length-contents}
 use borrow.Author.Needs.{needs}
 use Rattle.book_write.proofs.write_contents.Statement.{statement}
 use Rattle.book_write.proofs.write_contents.Tie as tie
@@ -20,7 +23,7 @@ use Rattle.book_write.proofs.write_contents.Tie as tie
 abbrev Inv-loop : tie.InvT-loop
 Inv-loop out₀ s n start₀ i₀ out start i =
     (i ≤ n)
-    × (start ≡ startAt n (tableFrom s .rules) i)
+    × (start ≡ startAt n (sizesOf (tableFrom s .rules)) i)
     × (out ≡ put out₀ 4 (contentsBytes n (tableFrom s .rules) i))
     × (length out ≡ length out₀)
 
@@ -28,7 +31,7 @@ abbrev μ-loop : tie.MeasureT-loop
 μ-loop out₀ s n start₀ i₀ out start i = n - i
 
 loop-holds : tie.Need-loop-holds Inv-loop μ-loop
-unfolding startAt contentsBytes joined
+unfolding startAt joined
 loop-holds c = (search needs, refl, sym (put-nil (c .before .before .args .out .now) 4), search needs)
 
 module _ (c : tie.In-loop Inv-loop μ-loop) where
@@ -52,7 +55,7 @@ body-size-requires c κs = (small c, search needs)
 
 -- the length of body i
 size-is : (c : tie.After-body-size Inv-loop μ-loop)
-    → c .body-size .result ≡ bodySize (getD (rules (c .before)) (c .before .before .loop .i) blankRule)
+    → c .body-size .result ≡ sizesOf (rules (c .before)) (c .before .before .loop .i)
 size-is c =
     c .body-size .ensures .0
     ∙ ap bodySize (sym (rule-from (start (c .before) .args .s .now) (c .before .before .loop .i) (small (c .before))))
@@ -70,7 +73,6 @@ add-start-2 c =
     omega (arith, most (b .before), b .body-size .ensures .1)
 
 loop-again : tie.Need-loop-again Inv-loop μ-loop
-unfolding contentsBytes entryBytes
 loop-again c =
     let w = c .before .before in
     let b = w .before .before in
@@ -81,7 +83,7 @@ loop-again c =
     let n = length-contents (a .n) (rules t) i in
     let room = start t .pre .2 in (
       search needs,
-      ap₂ _+_ (l .inv .1) (size-is b) ∙ sym (start-more (a .n) (rules t) i),
+      ap₂ _+_ (l .inv .1) (size-is b) ∙ sym (start-more (a .n) (sizesOf (rules t)) i),
       put-joined (a .out .now) 4 (entryBytes (a .n) (rules t)) i (l .inv .2) (omega arith) (4 + 4 * i) (omega arith)
           (w .write-entry .ensures
           ∙ ap₂ (λ (x y : ℕ). put (l .out) (4 + 4 * i) (u16Bytes x ++ u16Bytes y)) (l .inv .1) (size-is b)),

@@ -1,8 +1,9 @@
 -- Two numbers side by side: two writes are one.
 use Prim.Native.Nat.{_+_}
 use native.Mathlib.Omega.{arith}
-use Rattle.endian.specs.Put.{put-next}
-use Rattle.endian.specs.Bytes.{u16Bytes, length-u16}
+use Rattle.bytes.proofs.PutLaws.{put-next}
+use Rattle.bytes.specs.Bytes.{u16Bytes}
+use Rattle.bytes.proofs.BytesLaws.{length-u16}
 use borrow.Author.Needs.{needs}
 use Rattle.book_write.proofs.write_entry.Statement.{statement}
 use Rattle.book_write.proofs.write_entry.Tie as tie

@@ -3,7 +3,7 @@ use mathlib.Core.Path.{_≡_, ap, _∙_}
 use Prim.Native.Nat.{ℕ, _+_, _-_}
 use native.Mathlib.Omega.{arith}
 use lib.ListN.{take, drop}
-use Rattle.endian.specs.Put.{put}
+use Rattle.bytes.specs.Put.{put}
 use borrow.Author.Needs.{needs}
 use Rattle.book_write.proofs.write_part.Statement.{statement}
 use Rattle.book_write.proofs.write_part.Tie as tie

@@ -2,13 +2,13 @@
 use mathlib.Core.Path.{refl, sym, ap, _∙_, subst}
 use borrow.Author.Needs.{needs}
 use Rattle.table.specs.declared.Answer.{Answer}
-use Rattle.pairs.specs.declared.Masks.{Masks}
-use Rattle.pairs.specs.Lent.{masksIn}
-use Rattle.judging.specs.Report.{Reported}
-use Rattle.judging.specs.Marking.{zeros}
+use Rattle.analysis_pairs.specs.declared.Masks.{Masks}
+use Rattle.analysis_pairs.specs.AnalysisPairsInner.{masksIn}
+use Rattle.analysis_masks.specs.Report.{Reported}
+use Rattle.analysis_masks.specs.AnalysisMasksInner.{noMarks}
 use Rattle.analysis.specs.Says.{refusedReport}
-use Rattle.editor.specs.Rows.{Checked}
-use Rattle.editor.specs.RowsLaws.{checked-in, plain, orderly}
+use Rattle.editor.specs.EditorInner.{RowChecked}
+use Rattle.editor.proofs.EditorRowsLaws.{checked-in, no-number, orderly}
 use Rattle.editor.proofs.judged.Statement.{statement}
 use Rattle.editor.proofs.judged.Tie as tie
 
@@ -18,7 +18,7 @@ row s =
     let a = s .args in
     masksIn (a .n) (a .watch .now) (a .reads .now) (a .writes .now) (a .precedes .now)
 
-checked : (c : tie.After-check) → Checked (row (c .before)) (c .check .result)
+checked : (c : tie.After-check) → RowChecked (row (c .before)) (c .check .result)
 checked c = checked-in (row (c .before)) (c .check .ensures)
 
 returns : tie.Need-returns
@@ -30,13 +30,13 @@ returns c =
     }
 
 judged-requires : tie.Need-judged-requires
-unfolding zeros
+unfolding noMarks
 judged-requires c κs =
     let i = c .before in
     let s = i .before .before .before in
     let k = checked (i .before .before) in
     let z = i .if1 .left in
-    (orderly (row s) (s .pre) (plain (row s) (sym (ap (λ (x : Answer). x .number) (k .is)) ∙ z)) (k .named z), refl)
+    (orderly (row s) (s .pre) (no-number (row s) (sym (ap (λ (x : Answer). x .number) (k .is)) ∙ z)) (k .named z), refl)
 
 returns-2 : tie.Need-returns-2
 returns-2 c =

@@ -1,6 +1,6 @@
 -- The arrays are made of zeros.
 use mathlib.Core.Path.{refl}
-use Rattle.editor.specs.Copying.{noRows}
+use Rattle.editor.specs.EditorInner.{noRows}
 use Rattle.editor.proofs.none.Statement.{statement}
 use Rattle.editor.proofs.none.Tie as tie
 

@@ -2,7 +2,6 @@
 -- records stand in the masks, and i is what is passed of the length. A turn looks into the slice, copies record i out,
 -- shuts the slice again, and calls `with_row`; after the loop the masks go to `analysed`. All that the proof knows of
 -- `none`, `with_row` and `analysed` is that each meets its contract.
--- Assumes nothing.
 use mathlib.Core.Path.{_≡_, refl, sym, _∙_, ap, subst}
 use mathlib.Core.Bool.{Bool}
 use Prim.Native.Nat.{ℕ, _+_, _-_, _*_, _<_, _^_}
@@ -49,18 +48,18 @@ use denote.Triple.Clauses.{ensured, lasts}
 use denote.Triple.Table.{entered, cited}
 use denote.Triple.Walked.{says, Stays, stay-none-slice, walkOf, goes-none-slice, Walks, ends-at, walked, walk-meets}
 use denote.Exit.{yes as as-passed}
-use Rattle.editor.specs.Rows.{noRecord, rowMasks, Padded, RowsSay}
-use Rattle.editor.specs.Copying.{withRow, noRows, copyTo}
-use Rattle.editor.specs.CopyingLaws.{copy-more, copy-none, copy-padded, row-says}
+use Rattle.editor.specs.Rows.{noRecord, rowMasks, RowsSay}
+use Rattle.editor.specs.EditorInner.{RestZero, withRow, noRows}
+use Rattle.editor.proofs.CopyingLaws.{copyTo, copy-more, copy-none, copy-rest, row-says}
 use Rattle.editor.specs.declared.Record.{Record}
-use Rattle.pairs.specs.declared.Masks.{Masks}
-use Rattle.judging.specs.declared.Report.{Report}
+use Rattle.analysis_pairs.specs.declared.Masks.{Masks}
+use Rattle.analysis_masks.specs.declared.Report.{Report}
 use Rattle.editor.proofs.Record as R
 use Rattle.editor.proofs.Record.Laws as R′
-use Rattle.pairs.proofs.Masks as K
-use Rattle.pairs.proofs.Masks.Laws as K′
-use Rattle.judging.proofs.Report as P
-use Rattle.judging.proofs.Report.Laws as P′
+use Rattle.analysis_pairs.proofs.Masks as K
+use Rattle.analysis_pairs.proofs.Masks.Laws as K′
+use Rattle.analysis_masks.proofs.Report as P
+use Rattle.analysis_masks.proofs.Report.Laws as P′
 use Rattle.editor.proofs.none as none
 use Rattle.editor.proofs.none.Symbol as none-def
 use Rattle.editor.proofs.none.Symbol.{name as #editor·none}
@@ -153,7 +152,7 @@ module _ {M : Type 1} (𝓤 : URA M) (H : Heap 𝓤) (A : Atoms 𝓤) (W : Given
   abbrev to-analysed : Masks → Analysed 𝓤 H A at-mem run .Ghost
   to-analysed m = ((tt, tt, tt, (m, tt), (machK m ∷ [], tt)), tt)
 
-  goes-analysed : (m : Masks) → Padded m → ent 𝓤 (sem 𝓤 H A (K.the-row .own m (machK m ∷ []))) (Analysed 𝓤 H A at-mem run .pre (to-analysed m))
+  goes-analysed : (m : Masks) → RestZero m → ent 𝓤 (sem 𝓤 H A (K.the-row .own m (machK m ∷ []))) (Analysed 𝓤 H A at-mem run .pre (to-analysed m))
   goes-analysed m p = qed W (‵ (K.the-row .own m (machK m ∷ [])) ∷ []) ∵ says ! p $ nothing ! $ frame ! $ nothing ! $ move ! (1 ∷ 0 ∷ []) $ fjoin ! $ done !
 
   module _ (𝓣 : Tables 𝓤 H) (known-none : Triple 𝓤 (𝓣 .C #editor·none) (None 𝓤 H A at-mem run)) (known-row : Triple 𝓤 (𝓣 .C #editor·with-row) (WithRow 𝓤 H A at-mem run)) (known-end : Triple 𝓤 (𝓣 .C #editor·analysed) (Analysed 𝓤 H A at-mem run)) (g : Room R.the-row n) where
@@ -245,7 +244,7 @@ module _ {M : Type 1} (𝓤 : URA M) (H : Heap 𝓤) (A : Atoms 𝓤) (W : Given
           rewrite ! 4 (λ (t : Bool). ‵ (fat fullShare tyBool l₅ 0 (vbool t))) (le-ltb n n (omega arith)) refl $
           leaves-loop ! (load ! (from ! (stop !)) (look ! 4 refl)) $ exec ! C Λ En parts.t-4 (atRet En Post) $
           -- [the masks; _2; _3; _4; _5; room for _6; room for _7; _1; room for _0; the token; the reference; …]
-          use1 W (raw (Analysed 𝓤 H A at-mem run .pre (to-analysed (copyTo rs n)))) (goes-analysed (copyTo rs n) (copy-padded rs n)) $
+          use1 W (raw (Analysed 𝓤 H A at-mem run .pre (to-analysed (copyTo rs n)))) (goes-analysed (copyTo rs n) (copy-rest rs n)) $
           calls-at ! (fmOf 𝓤 H (W .laws) 𝓣) (Analysed 𝓤 H A at-mem run) known-end (to-analysed (copyTo rs n)) (and-then ! (load ! (from ! (stop !)) (look ! 1 refl)) (no-more !)) (λ w.
           use1 W (later (some (λ (r : Report). (‵ ftrue ⊛ ‵ (P.the-row .own r (w ∷ []))) ⊛ raw (ensured 𝓤 H A analysed.ended (analysed.clauses 𝓤 H A at-mem run) tt (copyTo rs n, tt) tt r)))) (id⊢ 𝓤 _) $ await ! tt $ pick ! (λ r.
           split ! $ move ! (1 ∷ []) $ use1 W (raw (fact 𝓤 (RowsSay (copyTo rs n) r))) (report-said 𝓤 H A at-mem run (copyTo rs n) r) $ heard ! (RowsSay (copyTo rs n) r) (λ e. split ! $ drop ! $

@@ -4,12 +4,14 @@ use Prim.Native.Nat.{_/_}
 use native.Mathlib.Omega.{arith}
 use lib.ListN.{length}
 use borrow.Author.Needs.{needs}
-use Rattle.pairs.specs.declared.Masks.{Masks}
-use Rattle.pairs.specs.Lent.{masksIn}
-use Rattle.rule.specs.Fill.{length-upto}
-use Rattle.editor.specs.Rows.{rowMasks, Padded, RowsSay}
-use Rattle.editor.specs.CopyingLaws.{first-padded, many-refused}
-use Rattle.editor.specs.Bytes.{recordIn, rowsIn, columns-are}
+use Rattle.analysis_pairs.specs.declared.Masks.{Masks}
+use Rattle.analysis_pairs.specs.AnalysisPairsInner.{masksIn}
+use Rattle.rule.proofs.FillLaws.{length-upto}
+use Rattle.editor.specs.Rows.{rowMasks, RowsSay}
+use Rattle.editor.specs.EditorInner.{RestZero}
+use Rattle.editor.proofs.CopyingLaws.{first-rest-zero, many-refused}
+use Rattle.editor.specs.RowsIn.{recordIn, rowsIn}
+use Rattle.editor.proofs.RowsInLaws.{columns-are}
 use Rattle.editor.proofs.report_of_bytes.Statement.{statement}
 use Rattle.editor.proofs.report_of_bytes.Tie as tie
 
@@ -36,7 +38,7 @@ made c =
 judged-requires : tie.Need-judged-requires
 judged-requires c κs =
     let d = c .before .before .before .before in
-    subst Padded (sym (made d)) (first-padded (rowsIn (d .before .before .before .before .before .before .args .s .now)) _)
+    subst RestZero (sym (made d)) (first-rest-zero (rowsIn (d .before .before .before .before .before .before .args .s .now)) _)
 
 returns-2 : tie.Need-returns-2
 returns-2 c =

@@ -6,22 +6,23 @@ use native.Mathlib.Omega.{arith}
 use lib.Bits.{bitOr, bitXor}
 use lib.ListN.{getD, length}
 use borrow.Author.Needs.{needs}
-use Rattle.mask.specs.SearchLaws.{some-same, least-same, least-is}
-use Rattle.mask.specs.Mask.{has, lowest}
-use Rattle.mask.specs.MaskLaws.{has-minus}
+use Rattle.mask.proofs.SearchLaws.{some-same, least-same, least-is}
+use Rattle.mask.specs.Mask.{has}
+use Rattle.mask.specs.MaskInner.{lowest}
+use Rattle.mask.proofs.MaskLaws.{has-minus}
 use Rattle.table.specs.declared.Answer.{Answer}
 use Rattle.table.specs.Table.{Table, goesBefore}
 use Rattle.table.specs.Check.{Sound}
 use Rattle.table.specs.Memory.{tableFrom}
-use Rattle.table.specs.Sound.{parts}
-use Rattle.steps.specs.declared.State.{State}
-use Rattle.steps.specs.declared.Ran.{Ran}
-use Rattle.steps.specs.State.{stateBad, Fits, waits, held, eligible, lowestOf}
-use Rattle.steps.specs.Step.{stepOf}
-use Rattle.steps.specs.StepLaws.{checked-sound}
-use Rattle.steps.specs.Run.{later, runOf}
-use Rattle.steps.specs.EligibleLaws.{lowest-eligible}
-use Rattle.game.specs.LoopLaws.{refused-over, over-by, spent-waits, more-by}
+use Rattle.table.proofs.SoundLaws.{parts}
+use Rattle.machine_spec.specs.declared.State.{State}
+use Rattle.machine_spec.specs.declared.Ran.{Ran}
+use Rattle.machine_spec.specs.State.{stateBad, Fits, waits, heldBack, eligible, lowestOf}
+use Rattle.machine_spec.specs.Step.{stepOf}
+use Rattle.machine_spec.proofs.StepLaws.{checked-sound}
+use Rattle.machine_spec.specs.Run.{later, runOf}
+use Rattle.machine_spec.proofs.EligibleLaws.{lowest-eligible}
+use Rattle.game.proofs.LoopLaws.{refused-over, over-by, spent-waits, more-by}
 use Rattle.game.proofs.due.Statement.{statement}
 use Rattle.game.proofs.due.Tie as tie
 
@@ -93,7 +94,7 @@ module _ (c : tie.After-lowest) where
 
   -- the rule taken is the lowest eligible one
   taken : c .lowest .result ≡ lowestOf (table past) (state past)
-  unfolding lowest held
+  unfolding lowest heldBack
   taken =
       let t = table past in
       let s = state past in

@@ -3,7 +3,6 @@
 -- `step`, has it back at the last value that `step` says, and asks `due` again; after the loop `standing` says how the run
 -- ended. Each call takes a copy of the table's reference, and its token, which comes back. All that the proof knows of the
 -- three is that each meets its contract.
--- Assumes nothing.
 use mathlib.Core.Path.{_≡_, refl, _∙_, ap, subst}
 use mathlib.Core.Bool.{Bool}
 use Prim.Native.Nat.{ℕ, _-_, _<_, _≤_, _^_}
@@ -50,21 +49,20 @@ use denote.Triple.Table.{entered, cited}
 use denote.Triple.Walked.{says, Stays, stay-none-ref, stay-none, walkOf, AllGo, goes-none-ref, goes-none, Walks, ends-at, walked, walk-meets}
 use denote.Exit.{yes as as-passed}
 use Rattle.table.specs.Table.{Table}
-use Rattle.steps.specs.declared.State.{State}
-use Rattle.steps.specs.declared.Ran.{Ran}
-use Rattle.steps.specs.Step.{stepOf}
-use Rattle.steps.specs.Run.{ran, runOf}
+use Rattle.machine_spec.specs.declared.State.{State}
+use Rattle.machine_spec.specs.declared.Ran.{Ran}
+use Rattle.machine_spec.specs.Step.{stepOf}
+use Rattle.machine_spec.specs.Run.{ran, runOf}
 use Rattle.table.specs.declared.Answer.{Answer}
-use Rattle.game.specs.Lent.{answerOf}
-use Rattle.game.specs.Loop.{Due}
-use Rattle.game.specs.LoopLaws.{Playing, play-start, play-turn, play-end}
-use Rattle.steps.proofs.State as T
-use Rattle.steps.proofs.State.Laws as T′
-use Rattle.steps.proofs.Ran as P
-use Rattle.steps.proofs.Ran.Laws as P′
+use Rattle.game.specs.GameInner.{Due}
+use Rattle.game.proofs.LoopLaws.{Playing, play-start, play-turn, play-end}
+use Rattle.machine_spec.proofs.State as T
+use Rattle.machine_spec.proofs.State.Laws as T′
+use Rattle.machine_spec.proofs.Ran as P
+use Rattle.machine_spec.proofs.Ran.Laws as P′
 use Rattle.table.proofs.Answer as N
 use Rattle.table.proofs.Answer.Laws as N′
-use Rattle.game.proofs.Parts.{image, Lent, place, Shown, book, mach}
+use Rattle.game.proofs.GamePartsLaws.{answerOf, Image, TableRef, place, Shown, book, mach}
 use Rattle.game.proofs.step as step
 use Rattle.game.proofs.step.Symbol as step-def
 use Rattle.game.proofs.step.Symbol.{name as #game·step}
@@ -84,14 +82,14 @@ use Rattle.game.proofs.play.Code as code
 use Rattle.game.proofs.play.Code.Mir as parts
 
 abbrev stayed : Stays (here.ended .signature .params) (here.ended .kept)
-stayed = (stay-none-ref (0 ∷ []) tt (plain (λ _. image)) as-passed, (stay-none (λ _. T.the-row) as-passed, (stay-none (λ _. u32) as-passed, tt)))
+stayed = (stay-none-ref (0 ∷ []) tt (plain (λ _. Image)) as-passed, (stay-none (λ _. T.the-row) as-passed, (stay-none (λ _. u32) as-passed, tt)))
 
 -- machine types
 abbrev word : Ty
 word = tyInt w32
 
 abbrev shown : Ty
-shown = tyRef (named 0) imm (pointee (image .written))
+shown = tyRef (named 0) imm (pointee (Image .written))
 
 abbrev ref : Ty
 ref = tyRef erased mut (pointee (T.the-row .written))
@@ -184,23 +182,23 @@ module _ {M : Type 1} (𝓤 : URA M) (H : Heap 𝓤) (A : Atoms 𝓤) (W : Given
 
   passes : (h : State) (n : ℕ) (X : SProp 𝓤) → ent 𝓤 (Entry h n) X → ent 𝓤 (sep 𝓤 (A .lft κ q) (sep 𝓤 (sem 𝓤 H A (Shown κ t)) (sem 𝓤 H A (ByValue h n)))) (sep 𝓤 X (sem 𝓤 H A (Shown κ t)))
   passes h n X k =
-      qed W (‵ (flft κ q) ∷ ‵ (Shown κ t) ∷ ‵ (ByValue h n) ∷ []) ∵ move ! (1 ∷ []) $ use1 W (‵ (Shown κ t) ⊛ ‵ (Shown κ t)) (shr-copy 𝓤 H A W (named 0) κ image .twice t (place t ∷ [])) $ split ! $
+      qed W (‵ (flft κ q) ∷ ‵ (Shown κ t) ∷ ‵ (ByValue h n) ∷ []) ∵ move ! (1 ∷ []) $ use1 W (‵ (Shown κ t) ⊛ ‵ (Shown κ t)) (shr-copy 𝓤 H A W (named 0) κ Image .twice t (place t ∷ [])) $ split ! $
       move ! (0 ∷ 3 ∷ []) $ fjoin ! $ nothing ! $ move ! (3 ∷ 0 ∷ []) $ join ! $ use2 W (raw X) k $ frame ! $ done !
 
-  abbrev Whole : State → ℕ → Fml
-  Whole h n = owns (Lent κ ∷ T.the-row ∷ u32 ∷ []) (t, (h, (n, tt))) (place t ∷ [], (mach h ∷ [], (vint w32 n ∷ [], tt)))
+  abbrev Handed : State → ℕ → Fml
+  Handed h n = owns (TableRef κ ∷ T.the-row ∷ u32 ∷ []) (t, (h, (n, tt))) (place t ∷ [], (mach h ∷ [], (vint w32 n ∷ [], tt)))
 
   abbrev to-due : State → ℕ → Asked 𝓤 H A at-mem run .Ghost
   to-due h n = (((κ, tt), (q, tt), tt, (t, (h, (n, tt))), (place t ∷ [], (mach h ∷ [], (vint w32 n ∷ [], tt)))), tt)
 
   goes-due : (h : State) (n : ℕ) → ent 𝓤 (Entry h n) (Asked 𝓤 H A at-mem run .pre (to-due h n))
-  goes-due h n = qed W ((‵ (flft κ q) ⊛ ‵ ftrue) ∷ ‵ (Whole h n) ∷ []) ∵ join ! $ frame ! $ done !
+  goes-due h n = qed W ((‵ (flft κ q) ⊛ ‵ ftrue) ∷ ‵ (Handed h n) ∷ []) ∵ join ! $ frame ! $ done !
 
   abbrev to-standing : State → ℕ → Standing 𝓤 H A at-mem run .Ghost
   to-standing h n = (((κ, tt), (q, tt), tt, (t, (h, (n, tt))), (place t ∷ [], (mach h ∷ [], (vint w32 n ∷ [], tt)))), tt)
 
   goes-standing : (h : State) (n : ℕ) → ent 𝓤 (Entry h n) (Standing 𝓤 H A at-mem run .pre (to-standing h n))
-  goes-standing h n = qed W ((‵ (flft κ q) ⊛ ‵ ftrue) ∷ ‵ (Whole h n) ∷ []) ∵ join ! $ frame ! $ done !
+  goes-standing h n = qed W ((‵ (flft κ q) ⊛ ‵ ftrue) ∷ ‵ (Handed h n) ∷ []) ∵ join ! $ frame ! $ done !
 
   -- what `step` is passed: the state lent, the rule by value, and a copy of the table's reference
   abbrev Ref : Lft → ℕ → GName → State → Fml
@@ -215,10 +213,10 @@ module _ {M : Type 1} (𝓤 : URA M) (H : Heap 𝓤) (A : Atoms 𝓤) (W : Given
   goes-step : (α : Lft) (l : ℕ) (δ : GName) (h : State) (n : ℕ)
       → ent 𝓤 (sep 𝓤 (A .lft κ q) (sep 𝓤 (sem 𝓤 H A (Shown κ t)) (sep 𝓤 (A .lft α fullShare) (sem 𝓤 H A (ByLoan α l δ h n))))) (sep 𝓤 (Step 𝓤 H A at-mem run .pre (to-step α l δ h n)) (sem 𝓤 H A (Shown κ t)))
   goes-step α l δ h n =
-      qed W (‵ (flft κ q) ∷ ‵ (Shown κ t) ∷ ‵ (flft α fullShare) ∷ ‵ (ByLoan α l δ h n) ∷ []) ∵ move ! (1 ∷ []) $ use1 W (‵ (Shown κ t) ⊛ ‵ (Shown κ t)) (shr-copy 𝓤 H A W (named 0) κ image .twice t (place t ∷ [])) $ split ! $
+      qed W (‵ (flft κ q) ∷ ‵ (Shown κ t) ∷ ‵ (flft α fullShare) ∷ ‵ (ByLoan α l δ h n) ∷ []) ∵ move ! (1 ∷ []) $ use1 W (‵ (Shown κ t) ⊛ ‵ (Shown κ t)) (shr-copy 𝓤 H A W (named 0) κ Image .twice t (place t ∷ [])) $ split ! $
       move ! (0 ∷ 4 ∷ []) $ fjoin ! $ nothing ! $ move ! (4 ∷ 0 ∷ []) $ join ! $ move ! (3 ∷ 0 ∷ []) $ join ! $
       use2 W (raw (Step 𝓤 H A at-mem run .pre (to-step α l δ h n)))
-      (qed W ((‵ (flft κ q) ⊛ (‵ (flft α fullShare) ⊛ ‵ ftrue)) ∷ ‵ (owns (Lent κ ∷ MutRef (named 1) α T.the-row ∷ u32 ∷ []) (t, (lent 𝓤 H A at-mem run l δ h, (n, tt))) (place t ∷ [], (vptr l 0 ∷ [], (vint w32 n ∷ [], tt)))) ∷ []) ∵ join ! $ frame ! $ done !) $ frame ! $ done !
+      (qed W ((‵ (flft κ q) ⊛ (‵ (flft α fullShare) ⊛ ‵ ftrue)) ∷ ‵ (owns (TableRef κ ∷ MutRef (named 1) α T.the-row ∷ u32 ∷ []) (t, (lent 𝓤 H A at-mem run l δ h, (n, tt))) (place t ∷ [], (vptr l 0 ∷ [], (vint w32 n ∷ [], tt)))) ∷ []) ∵ join ! $ frame ! $ done !) $ frame ! $ done !
 
   module _ (𝓣 : Tables 𝓤 H) (known-step : Triple 𝓤 (𝓣 .C #game·step) (Step 𝓤 H A at-mem run)) (known-due : Triple 𝓤 (𝓣 .C #game·due) (Asked 𝓤 H A at-mem run)) (known-end : Triple 𝓤 (𝓣 .C #game·standing) (Standing 𝓤 H A at-mem run)) where
     abbrev C : Calls 𝓤 H
@@ -363,7 +361,7 @@ module _ {M : Type 1} (𝓤 : URA M) (H : Heap 𝓤) (A : Atoms 𝓤) (W : Given
 
     walk : ent 𝓤 (onEntry 𝓤 H A here.signature (κ, tt) (q, tt) x at) (WpFn 𝓤 H C Λ code.function (place t ∷ mach s ∷ vint w32 budget ∷ []) Post)
     walk =
-        qed W ((‵ (flft κ q) ⊛ ‵ ftrue) ∷ ‵ (Whole s budget) ∷ []) ∵ split ! $ move ! (2 ∷ []) $ fsplit ! $ keep ! (0 ∷ 2 ∷ []) $ enter ! C Λ code.function (place t ∷ mach s ∷ vint w32 budget ∷ []) _ $
+        qed W ((‵ (flft κ q) ⊛ ‵ ftrue) ∷ ‵ (Handed s budget) ∷ []) ∵ split ! $ move ! (2 ∷ []) $ fsplit ! $ keep ! (0 ∷ 2 ∷ []) $ enter ! C Λ code.function (place t ∷ mach s ∷ vint w32 budget ∷ []) _ $
         alloc1 ! (λ l₀. alloc1 ! (λ l₁. alloc1 ! (λ l₂. alloc1 ! (λ l₃. alloc1 ! (λ l₄. alloc1 ! (λ l₅. alloc1 ! (λ l₆. alloc1 ! (λ l₇. alloc1 ! (λ l₈. alloc1 ! (λ l₉. alloc1 ! (λ l₁₀. alloc1 ! (λ l₁₁. alloc1 ! (λ l₁₂. alloc0 ! $ params1 ! $
         pass1 ! (init ! 22 refl (tt, tt)) $ pass1 ! (init ! 20 refl (LL.lawful T.the-type T′.the-laws 𝓤 H A W .typed s _ is-state .0)) $ pass1 ! (init ! 18 refl (tt, record { fits = budget-fits })) $ pass0 ! $
         enters l₀ l₁ l₂ l₃ l₄ l₅ l₆ l₇ l₈ l₉ l₁₀ l₁₁ l₁₂)))))))))))))
@@ -373,11 +371,11 @@ module _ {M : Type 1} (𝓤 : URA M) (H : Heap 𝓤) (A : Atoms 𝓤) (W : Given
   Known 𝓣 = Triple 𝓤 (𝓣 .C #game·step) (Step 𝓤 H A at-mem run) × Triple 𝓤 (𝓣 .C #game·due) (Asked 𝓤 H A at-mem run) × Triple 𝓤 (𝓣 .C #game·standing) (Standing 𝓤 H A at-mem run)
 
   walks : (𝓣 : Tables 𝓤 H) → Known 𝓣 → Walks 𝓤 H A here.ended stayed (WpFn 𝓤 H (𝓣 .C) (𝓣 .Λ) code.function) (here.clauses 𝓤 H A at-mem run)
-  walks 𝓣 known = walked 𝓤 H A here.ended stayed (here.clauses 𝓤 H A at-mem run) (WpFn 𝓤 H (𝓣 .C) (𝓣 .Λ) code.function) (λ κs. (ptr-vals, (LL.vals T.the-type T′.the-laws, (uint-vals w32, tt)))) (λ κs. (shr-tells (named 0) (κs .0) image, (LL.tells T.the-type T′.the-laws, (uint-tells w32, tt))))
+  walks 𝓣 known = walked 𝓤 H A here.ended stayed (here.clauses 𝓤 H A at-mem run) (WpFn 𝓤 H (𝓣 .C) (𝓣 .Λ) code.function) (λ κs. (ptr-vals, (LL.vals T.the-type T′.the-laws, (uint-vals w32, tt)))) (λ κs. (shr-tells (named 0) (κs .0) Image, (LL.tells T.the-type T′.the-laws, (uint-tells w32, tt))))
       (λ κs qs bounds a _ are. via 𝓤 _ (fst∗ 𝓤 _ (emp 𝓤)) (walk 𝓤 H A W at-mem run (κs .0) (qs .0) (a .0) (a .1 .0) (are .1 .0) (a .1 .1 .0) (are .1 .1 .0 .1) 𝓣 (known .0) (known .1) (known .2)))
 
   goes : AllGo 𝓤 H A W 1 (here.signature .params) (here.ended .kept) stayed
-  goes = (goes-none-ref 𝓤 H A W 1 (0 ∷ []) tt (plain (λ _. image)) as-passed, (goes-none 𝓤 H A W 1 (λ _. T.the-row) as-passed (λ κs x f. refl), (goes-none 𝓤 H A W 1 (λ _. u32) as-passed (λ κs x f. refl), tt)))
+  goes = (goes-none-ref 𝓤 H A W 1 (0 ∷ []) tt (plain (λ _. Image)) as-passed, (goes-none 𝓤 H A W 1 (λ _. T.the-row) as-passed (λ κs x f. refl), (goes-none 𝓤 H A W 1 (λ _. u32) as-passed (λ κs x f. refl), tt)))
 
   meets : (𝓣 : Tables 𝓤 H) → Known 𝓣 → Meets 𝓤 H A here.signature (WpFn 𝓤 H (𝓣 .C) (𝓣 .Λ) code.function) (here.spec 𝓤 H A at-mem run)
   meets 𝓣 known = walk-meets 𝓤 H A here.ended stayed W goes (here.clauses 𝓤 H A at-mem run) (WpFn 𝓤 H (𝓣 .C) (𝓣 .Λ) code.function) (WpFn-mono 𝓤 H (W .laws) 𝓣 code.function) (walks 𝓣 known)

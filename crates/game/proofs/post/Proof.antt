@@ -1,7 +1,6 @@
 -- `game::post` meets its contract: a walk of its MIR, by hand. The borrow is opened, the state is copied out and passed
 -- to `machine::post` with a copy of the table's reference, the state that came back is stored over it, and the borrow is
 -- closed at that state. All that the proof knows of `machine::post` is that it meets its contract.
--- Assumes nothing.
 use mathlib.Core.Path.{_≡_, refl, ap}
 use Prim.Native.Nat.{ℕ, _<_, _^_}
 use mathlib.Core.List.{[], _∷_, List}
@@ -43,28 +42,27 @@ use denote.Triple.Table.{entered, cited}
 use denote.Triple.Walked.{says, Stays, stay-none-ref, stay-ref, stay-none, walkOf, AllGo, goes-none-ref, goes-none, goes-ref, Walks, ends-at, walked, walk-meets}
 use denote.Exit.{yes}
 use Rattle.table.specs.declared.Answer.{Answer}
-use Rattle.steps.specs.declared.State.{State}
-use Rattle.steps.specs.declared.Moved.{Moved}
-use Rattle.steps.specs.Step.{postOf}
-use Rattle.game.specs.Lent.{answerOf}
-use Rattle.steps.proofs.State as T
-use Rattle.steps.proofs.State.Laws as T′
-use Rattle.steps.proofs.Moved as S
-use Rattle.steps.proofs.Moved.Laws as S′
+use Rattle.machine_spec.specs.declared.State.{State}
+use Rattle.machine_spec.specs.declared.Moved.{Moved}
+use Rattle.machine_spec.specs.Step.{postOf}
+use Rattle.machine_spec.proofs.State as T
+use Rattle.machine_spec.proofs.State.Laws as T′
+use Rattle.machine_spec.proofs.Moved as S
+use Rattle.machine_spec.proofs.Moved.Laws as S′
 use Rattle.machine.proofs.post as post
 use Rattle.machine.proofs.post.Symbol as post-def
 use Rattle.machine.proofs.post.Symbol.{name as #machine·post}
 use Rattle.machine.proofs.post.Met as post-thm
 use Rattle.table.proofs.Answer as N
 use Rattle.table.proofs.Answer.Laws as N′
-use Rattle.game.proofs.Parts.{image, Lent, place, Shown, book, mach, told, inner, number-fits, place-fits, answered}
+use Rattle.game.proofs.GamePartsLaws.{answerOf, Image, TableRef, place, Shown, book, mach, answerVal, inner, number-fits, place-fits, answer-is}
 use Rattle.game.proofs.post.Key.{name as #game·post}
 use Rattle.game.proofs.post as here
 use Rattle.game.proofs.post.Statement as stated
 use Rattle.game.proofs.post.Code as code
 
 abbrev stayed : Stays (here.ended .signature .params) (here.ended .kept)
-stayed = (stay-none-ref (0 ∷ []) tt (plain (λ _. image)) yes, (stay-ref (1 ∷ []) tt (plain (λ _. T.the-row)), (stay-none (λ _. u32) yes, (stay-none (λ _. i64) yes, tt))))
+stayed = (stay-none-ref (0 ∷ []) tt (plain (λ _. Image)) yes, (stay-ref (1 ∷ []) tt (plain (λ _. T.the-row)), (stay-none (λ _. u32) yes, (stay-none (λ _. i64) yes, tt))))
 
 module _ {M : Type 1} (𝓤 : URA M) (H : Heap 𝓤) (A : Atoms 𝓤) (at-mem : Memory → SProp 𝓤) (run : Routine → Fun 𝓤) where
   -- the contract that the proof cites
@@ -91,11 +89,11 @@ module _ {M : Type 1} (𝓤 : URA M) (H : Heap 𝓤) (A : Atoms 𝓤) (W : Given
   abbrev given : Moved → Answer
   given m = answerOf m
 
-  exits : (m : Moved) → Is N.the-row (given m) (told (given m) ∷ []) → m ≡ postOf (book t) h n z
-      → ent 𝓤 (sep 𝓤 (A .obs γ (T.the-row .coded .code (stored m))) (sep 𝓤 (A .bor μ (Body (mem (T.the-row)) b o γ)) (sep 𝓤 (A .lft μ p) (sep 𝓤 (A .lft κ q) (sem 𝓤 H A (Shown κ t)))))) (Post (told (given m)))
+  exits : (m : Moved) → Is N.the-row (given m) (answerVal (given m) ∷ []) → m ≡ postOf (book t) h n z
+      → ent 𝓤 (sep 𝓤 (A .obs γ (T.the-row .coded .code (stored m))) (sep 𝓤 (A .bor μ (Body (mem (T.the-row)) b o γ)) (sep 𝓤 (A .lft μ p) (sep 𝓤 (A .lft κ q) (sem 𝓤 H A (Shown κ t)))))) (Post (answerVal (given m)))
   exits m told-is e =
       qed W (‵ (fobs γ (T.the-row .coded .code (stored m))) ∷ ‵ (fbor μ (Body (mem (T.the-row)) b o γ)) ∷ ‵ (flft μ p) ∷ ‵ (flft κ q) ∷ ‵ (Shown κ t) ∷ []) ∵
-      suffices ! _ (ends-at 𝓤 H A here.ended stayed (here.clauses 𝓤 H A at-mem run) W (((κ, (μ, tt)), (q, (p, tt)), tt, x, at), tt) (told (given m)) (given m) (tt, (stored m, (tt, (tt, tt)))) (tt, (tt, (tt, (tt, tt))))) $
+      suffices ! _ (ends-at 𝓤 H A here.ended stayed (here.clauses 𝓤 H A at-mem run) W (((κ, (μ, tt)), (q, (p, tt)), tt, x, at), tt) (answerVal (given m)) (given m) (tt, (stored m, (tt, (tt, tt)))) (tt, (tt, (tt, (tt, tt))))) $
       says ! (ap (λ (y : Moved). y .state) e, ap answerOf e) $
       nothing ! $ move ! (3 ∷ 0 ∷ []) $ join ! $ move ! (3 ∷ 0 ∷ []) $ join ! $
       frame ! $ feqI ! (List Val) (vptr b o ∷ []) (vptr b o ∷ []) refl $ fjoin3 ! $ nothing ! $ owned ! i64 (Is i64) (sint-makes 𝓤 H A W w64) z _ is-amount $ fjoin ! $ owned ! u32 (Is u32) (uint-makes 𝓤 H A W w32) n _ (refl, fits) $ fjoin ! $ move ! (1 ∷ 0 ∷ []) $ fjoin ! $ move ! (1 ∷ 0 ∷ []) $ fjoin ! $
@@ -105,7 +103,7 @@ module _ {M : Type 1} (𝓤 : URA M) (H : Heap 𝓤) (A : Atoms 𝓤) (W : Given
   to-post = (((κ, tt), (q, tt), tt, (t, (h, (n, (z, tt)))), (place t ∷ [], (mach h ∷ [], (vint w32 n ∷ [], (sint-vals w64 z, tt))))), tt)
 
   abbrev Passed : Fml
-  Passed = owns (Lent κ ∷ T.the-row ∷ u32 ∷ i64 ∷ []) (t, (h, (n, (z, tt)))) (place t ∷ [], (mach h ∷ [], (vint w32 n ∷ [], (sint-vals w64 z, tt))))
+  Passed = owns (TableRef κ ∷ T.the-row ∷ u32 ∷ i64 ∷ []) (t, (h, (n, (z, tt)))) (place t ∷ [], (mach h ∷ [], (vint w32 n ∷ [], (sint-vals w64 z, tt))))
 
   goes-post : ent 𝓤 (sep 𝓤 (A .lft κ q) (sem 𝓤 H A Passed)) (Posting 𝓤 H A at-mem run .pre to-post)
   goes-post = qed W (‵ (flft κ q) ∷ ‵ Passed ∷ []) ∵ nothing ! $ move ! (1 ∷ 0 ∷ []) $ join ! $ join ! $ frame ! $ done !
@@ -113,9 +111,9 @@ module _ {M : Type 1} (𝓤 : URA M) (H : Heap 𝓤) (A : Atoms 𝓤) (W : Given
   module _ (C : Calls 𝓤 H) (Λ : Loops 𝓤 H) (fm : FmC 𝓤 H (W .laws) C) (known : Triple 𝓤 (C #machine·post) (Posting 𝓤 H A at-mem run)) where
     walk : ent 𝓤 (onEntry 𝓤 H A here.signature (κ, (μ, tt)) (q, (p, tt)) x at) (WpFn 𝓤 H C Λ code.function (place t ∷ vptr b o ∷ vint w32 n ∷ sint-vals w64 z) Post)
     walk =
-        qed W ((‵ (flft κ q) ⊛ (‵ (flft μ p) ⊛ ‵ ftrue)) ∷ ‵ (owns (Lent κ ∷ MutRef (named 1) μ (T.the-row) ∷ u32 ∷ i64 ∷ []) x at) ∷ []) ∵ split ! $ move ! (1 ∷ []) $ split ! $ move ! (3 ∷ []) $
+        qed W ((‵ (flft κ q) ⊛ (‵ (flft μ p) ⊛ ‵ ftrue)) ∷ ‵ (owns (TableRef κ ∷ MutRef (named 1) μ (T.the-row) ∷ u32 ∷ i64 ∷ []) x at) ∷ []) ∵ split ! $ move ! (1 ∷ []) $ split ! $ move ! (3 ∷ []) $
         -- the table's reference is had twice: one copy goes to the callee
-        fsplit ! $ use1 W (‵ (Shown κ t) ⊛ ‵ (Shown κ t)) (shr-copy 𝓤 H A W (named 0) κ image .twice t (place t ∷ [])) $ split ! $ move ! (2 ∷ []) $ fsplit ! $ fsplit3 ! $ drop ! $ keep ! (0 ∷ 1 ∷ 5 ∷ 3 ∷ 4 ∷ 7 ∷ []) $
+        fsplit ! $ use1 W (‵ (Shown κ t) ⊛ ‵ (Shown κ t)) (shr-copy 𝓤 H A W (named 0) κ Image .twice t (place t ∷ [])) $ split ! $ move ! (2 ∷ []) $ fsplit ! $ fsplit3 ! $ drop ! $ keep ! (0 ∷ 1 ∷ 5 ∷ 3 ∷ 4 ∷ 7 ∷ []) $
         -- [obs; the borrow; its token; the table's reference, twice; its token]
         enter ! C Λ code.function (place t ∷ vptr b o ∷ vint w32 n ∷ sint-vals w64 z) _ $
         alloc1 ! (λ l₀. alloc1 ! (λ l₁. alloc1 ! (λ l₂. alloc1 ! (λ l₃. alloc1 ! (λ l₄. alloc1 ! (λ l₅. alloc1 ! (λ l₆. alloc0 ! $ params1 ! $
@@ -143,15 +141,15 @@ module _ {M : Type 1} (𝓤 : URA M) (H : Heap 𝓤) (A : Atoms 𝓤) (W : Given
         drop ! $ move ! (2 ∷ []) $ drop ! $ owned ! (T.the-row) (Is (T.the-row)) (LL.makes T.the-type T′.the-plain 𝓤 H A) (stored m) _ to-store $ move ! (2 ∷ 0 ∷ 3 ∷ 4 ∷ 5 ∷ []) $ closes ! tt (T.the-row) (stored m) (mach (stored m) ∷ []) b o $
         returns ! (look ! 16 refl) $ forget ! 4 refl $ forget ! 6 refl $ forget ! 8 refl $ forget ! 10 refl $ forget ! 12 refl $ forget ! 14 refl $ forget ! 16 refl $
         move ! (16 ∷ 17 ∷ []) $ free1 ! $ move ! (14 ∷ 15 ∷ []) $ free1 ! $ move ! (12 ∷ 13 ∷ []) $ free1 ! $ move ! (10 ∷ 11 ∷ []) $ free1 ! $ move ! (8 ∷ 9 ∷ []) $ free1 ! $ move ! (6 ∷ 7 ∷ []) $ free1 ! $ move ! (4 ∷ 5 ∷ []) $ free1 ! $ free0 ! $
-        by ! (exits m (answered (given m) low-number low-place) e))))))))))))))
+        by ! (exits m (answer-is (given m) low-number low-place) e))))))))))))))
 
 module _ {M : Type 1} (𝓤 : URA M) (H : Heap 𝓤) (A : Atoms 𝓤) (W : Given 𝓤 H A) (at-mem : Memory → SProp 𝓤) (run : Routine → Fun 𝓤) where
   walks : (C : Calls 𝓤 H) (Λ : Loops 𝓤 H) → FmC 𝓤 H (W .laws) C → Triple 𝓤 (C #machine·post) (Posting 𝓤 H A at-mem run) → Walks 𝓤 H A here.ended stayed (WpFn 𝓤 H C Λ code.function) (here.clauses 𝓤 H A at-mem run)
-  walks C Λ fm known = walked 𝓤 H A here.ended stayed (here.clauses 𝓤 H A at-mem run) (WpFn 𝓤 H C Λ code.function) (λ κs. (ptr-vals, (ptr-vals, (uint-vals w32, (sint-vals w64, tt))))) (λ κs. (shr-tells (named 0) (κs .0) image, (mut-tells (named 1) (κs .1 .0) (T.the-row), (uint-tells w32, (sint-tells w64, tt)))))
+  walks C Λ fm known = walked 𝓤 H A here.ended stayed (here.clauses 𝓤 H A at-mem run) (WpFn 𝓤 H C Λ code.function) (λ κs. (ptr-vals, (ptr-vals, (uint-vals w32, (sint-vals w64, tt))))) (λ κs. (shr-tells (named 0) (κs .0) Image, (mut-tells (named 1) (κs .1 .0) (T.the-row), (uint-tells w32, (sint-tells w64, tt)))))
       (λ κs qs bounds a _ are. via 𝓤 _ (fst∗ 𝓤 _ (emp 𝓤)) (walk 𝓤 H A W at-mem run (κs .0) (κs .1 .0) (qs .0) (qs .1 .0) (a .0) (a .1 .0 .ptr .0) (a .1 .0 .ptr .1) (a .1 .0 .name) (a .1 .0 .now) (a .1 .1 .0) (are .1 .1 .0 .1) (a .1 .1 .1 .0) (are .1 .1 .1 .0) C Λ fm known))
 
   goes : AllGo 𝓤 H A W 2 (here.signature .params) (here.ended .kept) stayed
-  goes = (goes-none-ref 𝓤 H A W 2 (0 ∷ []) tt (plain (λ _. image)) yes, (goes-ref 𝓤 H A W 2 1 tt (plain (λ _. T.the-row)), (goes-none 𝓤 H A W 2 (λ _. u32) yes (λ κs x f. refl), (goes-none 𝓤 H A W 2 (λ _. i64) yes (λ κs x f. refl), tt))))
+  goes = (goes-none-ref 𝓤 H A W 2 (0 ∷ []) tt (plain (λ _. Image)) yes, (goes-ref 𝓤 H A W 2 1 tt (plain (λ _. T.the-row)), (goes-none 𝓤 H A W 2 (λ _. u32) yes (λ κs x f. refl), (goes-none 𝓤 H A W 2 (λ _. i64) yes (λ κs x f. refl), tt))))
 
 meets : {M : Type 1} (𝓤 : URA M) (H : Heap 𝓤) (A : Atoms 𝓤) → Given 𝓤 H A → (at-mem : Memory → SProp 𝓤) (run : Routine → Fun 𝓤) (𝓣 : Tables 𝓤 H) → Triple 𝓤 (𝓣 .C #machine·post) (Posting 𝓤 H A at-mem run)
     → Meets 𝓤 H A here.signature (WpFn 𝓤 H (𝓣 .C) (𝓣 .Λ) code.function) (here.spec 𝓤 H A at-mem run)

@@ -1,8 +1,8 @@
 -- What the run with budget 0 says, with the steps put in.
 use mathlib.Core.Path.{ap}
 use borrow.Author.Needs.{needs}
-use Rattle.steps.specs.declared.Ran.{Ran}
-use Rattle.steps.specs.Run.{ran}
+use Rattle.machine_spec.specs.declared.Ran.{Ran}
+use Rattle.machine_spec.specs.Run.{ran}
 use Rattle.game.proofs.standing.Statement.{statement}
 use Rattle.game.proofs.standing.Tie as tie
 

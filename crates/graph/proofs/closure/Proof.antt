@@ -7,7 +7,8 @@ use native.Mathlib.Numerals.{add-one}
 use native.Mathlib.Omega.{arith}
 use lib.ListN.{length, getD}
 use Rattle.mask.specs.Mask.{has}
-use Rattle.graph.specs.Graph.{leads, Through}
+use Rattle.graph.specs.Graph.{leads}
+use Rattle.graph.specs.GraphInner.{Through}
 use borrow.Author.Needs.{needs}
 use Rattle.graph.proofs.closure.Statement.{statement}
 use Rattle.graph.proofs.closure.Tie as tie

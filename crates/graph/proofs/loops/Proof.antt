@@ -5,8 +5,8 @@ use Prim.Native.Nat.{ℕ, _≤_, _-_}
 use native.Mathlib.Omega.{arith}
 use lib.ListN.{length, getD, List·getD-eq-default}
 use Rattle.mask.specs.Mask.{has}
-use Rattle.mask.specs.Bits.{has-zero}
-use Rattle.mask.specs.Loops.{Picked, picked-none, picked-take, picked-skip, picked-every}
+use Rattle.mask.proofs.BitsLaws.{has-zero}
+use Rattle.mask.proofs.LoopsLaws.{Picked, picked-none, picked-take, picked-skip, picked-every}
 use borrow.Author.Needs.{needs}
 use Rattle.graph.proofs.loops.Statement.{statement}
 use Rattle.graph.proofs.loops.Tie as tie

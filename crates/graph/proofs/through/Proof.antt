@@ -10,8 +10,9 @@ use native.Mathlib.Omega.{arith}
 use lib.Bits.{bitOr}
 use lib.ListN.{length, getD}
 use Rattle.mask.specs.Mask.{has}
-use Rattle.mask.specs.Bits.{has-or, has-zero}
-use Rattle.mask.specs.Loops.{Upto, upto-none, upto-store, upto-all}
+use Rattle.mask.proofs.BitsLaws.{has-or, has-zero}
+use Rattle.mask.specs.MaskInner.{Upto}
+use Rattle.mask.proofs.LoopsLaws.{upto-none, upto-store, upto-all}
 use borrow.Author.Needs.{needs}
 use Rattle.graph.proofs.through.Statement.{statement}
 use Rattle.graph.proofs.through.Tie as tie

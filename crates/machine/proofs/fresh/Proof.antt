@@ -1,20 +1,26 @@
 -- The table's answer, 11, or the state; the state of zeros where refused.
 use mathlib.Core.Path.{_≡_, sym, ap, _∙_}
 use mathlib.Core.Bool.{Bool, true, false, cond}
-use mathlib.Core.List.{List}
+use mathlib.Core.List.{List, [], _∷_}
 use Prim.Native.Nat.{ℕ}
 use native.Mathlib.Omega.{arith}
 use lib.IntN.{ℤ}
 use borrow.Author.Needs.{needs}
+use Rattle.mask.specs.First.{firstOf}
+use Rattle.table.specs.Table.{Table}
 use Rattle.table.specs.Check.{Sound}
 use Rattle.table.specs.Memory.{tableFrom}
-use Rattle.steps.specs.declared.State.{State}
-use Rattle.steps.specs.State.{still, zeros}
-use Rattle.steps.specs.Step.{moved, answered, freshNumber, freshOf}
-use Rattle.steps.specs.StepLaws.{checked-sound, checked-refused, answered-own, answered-is}
-use Rattle.machine_step.specs.TurnLaws.{bad-by, few-at}
+use Rattle.machine_spec.specs.declared.State.{State}
+use Rattle.machine_spec.specs.State.{stateBad, still, zeros}
+use Rattle.machine_spec.specs.Step.{moved, answered, freshOf}
+use Rattle.machine_spec.proofs.StepLaws.{checked-sound, checked-refused, answered-own, answered-is}
+use Rattle.machine_step.proofs.TurnLaws.{bad-by, few-at}
 use Rattle.machine.proofs.fresh.Statement.{statement}
 use Rattle.machine.proofs.fresh.Tie as tie
+
+-- 11, where the amounts do not fit
+abbrev numbers : Table → List ℤ → List (Bool × ℕ)
+numbers t amounts = (stateBad t (still amounts), 11) ∷ []
 
 returns : tie.Need-returns
 unfolding freshOf
@@ -23,9 +29,9 @@ returns c =
     let a = k .before .before .args in
     let t = tableFrom (a .table .now) in
     c .answer .ensures
-    ∙ checked-refused t (k .check .result) (k .check .ensures) (c .before .if1 .taken) (freshNumber t (a .t2))
+    ∙ checked-refused t (k .check .result) (k .check .ensures) (c .before .if1 .taken) (numbers t (a .t2))
     (k .before .still .result) (still (a .t2))
-    ∙ ap (λ (s : State). answered t (freshNumber t (a .t2)) s (still (a .t2))) (k .before .still .ensures)
+    ∙ ap (λ (s : State). answered t (numbers t (a .t2)) s (still (a .t2))) (k .before .still .ensures)
 
 -- past the first test
 module _ (c : tie.Else1) where
@@ -45,7 +51,7 @@ state-bad-requires c κs =
 
 -- the second test, and the number that it gives
 number : (c : tie.After-state-bad) (b : Bool) → c .state-bad .result ≡ b →
-    let d = c .before .before .before .before in freshNumber (tableFrom (image d)) (amounts d) ≡ cond b 11 0
+    let d = c .before .before .before .before in firstOf 0 (numbers (tableFrom (image d)) (amounts d)) ≡ cond b 11 0
 number c b e =
     let d = c .before .before .before .before in
     ap (λ (x : Bool). cond x 11 0) (sym (c .state-bad .ensures ∙ bad-by (image d) (still (amounts d))) ∙ e)
@@ -60,7 +66,7 @@ returns-2 c =
     c .answer2 .ensures
     ∙ ap (moved 11 255) (d .before .before .before .still .ensures)
     ∙ ap (λ (n : ℕ). moved n 255 zeros) (sym e)
-    ∙ sym (answered-own t (freshNumber t (amounts d)) zeros (still (amounts d)) (sound-here d) (λ z. absurd (omega (arith, e))))
+    ∙ sym (answered-own t (numbers t (amounts d)) zeros (still (amounts d)) (sound-here d) (λ z. absurd (omega (arith, e))))
 
 returns-3 : tie.Need-returns-3
 unfolding freshOf
@@ -70,7 +76,7 @@ returns-3 c =
     let t = tableFrom (image d) in
     c .answer3 .ensures
     ∙ ap (moved 0 255) (c .before .still2 .ensures)
-    ∙ sym (answered-is t (freshNumber t (amounts d)) zeros (still (amounts d)) (sound-here d)
+    ∙ sym (answered-is t (numbers t (amounts d)) zeros (still (amounts d)) (sound-here d)
     (number b false (c .before .before .if2 .left)))
 
 pub fresh-spec : {M : Type 1} → statement M

@@ -7,16 +7,17 @@ use lib.IntN.{ℤ}
 use lib.ListN.{length, set}
 use mir.Facts.{toZ-ofZ}
 use borrow.Author.Needs.{needs}
+use Rattle.mask.specs.First.{firstOf}
 use Rattle.table.specs.Check.{Sound}
-use Rattle.table.specs.Sound.{parts}
+use Rattle.table.proofs.SoundLaws.{parts}
 use Rattle.table.specs.Memory.{tableFrom}
-use Rattle.amounts.specs.SlotLaws.{put-one}
-use Rattle.steps.specs.declared.State.{State}
-use Rattle.steps.specs.Step.{moved, renewed, postNumber, postOf}
-use Rattle.steps.specs.StepLaws.{checked-sound, checked-refused, answered-own, answered-is}
-use Rattle.steps.specs.PostLaws.{posting}
-use Rattle.machine_step.specs.Turn.{renewedBy}
-use Rattle.machine_step.specs.TurnLaws.{few-at, sizes-at, renewed-is, renewed-by}
+use Rattle.rule_act.proofs.ActSlotLaws.{put-one}
+use Rattle.machine_spec.specs.declared.State.{State}
+use Rattle.machine_spec.specs.Step.{moved, storedAndWoken, postNumbers, postOf}
+use Rattle.machine_spec.proofs.StepLaws.{checked-sound, checked-refused, answered-own, answered-is}
+use Rattle.machine_spec.proofs.PostLaws.{posting}
+use Rattle.machine_step.specs.MachineStepInner.{storedAndWokenBy}
+use Rattle.machine_step.proofs.TurnLaws.{few-at, sizes-at, woken-is, woken-by}
 use Rattle.machine.proofs.post.Statement.{statement}
 use Rattle.machine.proofs.post.Tie as tie
 
@@ -28,7 +29,7 @@ returns c =
     let t = tableFrom (a .table .now) in
     c .answer .ensures
     ∙ checked-refused t (k .check .result) (k .check .ensures) (c .before .if1 .taken)
-    (postNumber t (a .s) (a .cell) (a .value)) (a .s) (renewed t (a .s) (set (a .s .cells) (a .cell) (a .value)))
+    (postNumbers t (a .s) (a .cell) (a .value)) (a .s) (storedAndWoken t (a .s) (set (a .s .cells) (a .cell) (a .value)))
 
 -- past the first test
 module _ (c : tie.Else1) where
@@ -54,11 +55,11 @@ post-number-requires c κs =
 
 -- the posting's own number
 own : (c : tie.After-post-number) → let d = c .before .before .before .before in
-    c .post-number .result ≡ postNumber (tableFrom (image d)) (state d) (cell d) (value d)
+    c .post-number .result ≡ firstOf 0 (postNumbers (tableFrom (image d)) (state d) (cell d) (value d))
 own c =
     let d = c .before .before .before .before in
     c .post-number .ensures
-    ∙ ap (postNumber (tableFrom (image d)) (state d) (cell d)) (toZ-ofZ (d .before .before .before .fits .value))
+    ∙ ap (λ (v : ℤ). firstOf 0 (postNumbers (tableFrom (image d)) (state d) (cell d) v)) (toZ-ofZ (d .before .before .before .fits .value))
 
 returns-2 : tie.Need-returns-2
 unfolding postOf
@@ -68,15 +69,15 @@ returns-2 c =
     let t = tableFrom (image d) in
     c .answer2 .ensures
     ∙ ap (λ (x : ℕ). moved x 255 (state d)) (own p)
-    ∙ sym (answered-own t (postNumber t (state d) (cell d) (value d)) (state d)
-    (renewed t (state d) (set (state d .cells) (cell d) (value d))) (sound-here d) (λ z. c .before .if2 .taken (own p ∙ z)))
+    ∙ sym (answered-own t (postNumbers t (state d) (cell d) (value d)) (state d)
+    (storedAndWoken t (state d) (set (state d .cells) (cell d) (value d))) (sound-here d) (λ z. c .before .if2 .taken (own p ∙ z)))
 
 -- past the second
 module _ (c : tie.Else2) where
   abbrev early : tie.Else1
   early = c .before .before .before .before .before
 
-  zero : postNumber (tableFrom (image early)) (state early) (cell early) (value early) ≡ 0
+  zero : firstOf 0 (postNumbers (tableFrom (image early)) (state early) (cell early) (value early)) ≡ 0
   zero = sym (own (c .before)) ∙ c .if2 .left
 
   long-cells : length (state early .cells) ≡ 32
@@ -111,12 +112,13 @@ returns-3 c =
     c .answer3 .ensures
     ∙ ap (moved 0 255)
     (c .before .joined .ensures
-    ∙ renewed-is (v .watches .result) (state d) (p .put .last .0) (p .put .result) (w .woken .result)
-    (put-one (state d .cells) (p .put .last .0) (cell d) _ (p .put .result) (long-cells e) (omega arith) (p .put .ensures)) (w .woken .ensures)
-    ∙ ap₂ (λ (row : List ℕ) (x : List ℤ). renewedBy row (state d) x) (v .watches .ensures)
+    ∙ woken-is (v .watches .result) (state d) (p .put .last .0) (p .put .result) (w .woken .result)
+    (put-one (state d .cells) (p .put .last .0) (cell d) _ (p .put .result) (long-cells e) (omega arith) (p .put .ensures))
+    (w .woken .ensures)
+    ∙ ap₂ (λ (row : List ℕ) (x : List ℤ). storedAndWokenBy row (state d) x) (v .watches .ensures)
     (p .put .ensures .cells ∙ ap (set (state d .cells) (cell d)) (toZ-ofZ (d .before .before .before .fits .value)))
-    ∙ renewed-by t (parts t (sound-here d) .sizes .rules) (state d) after)
-    ∙ sym (answered-is t (postNumber t (state d) (cell d) (value d)) (state d) (renewed t (state d) after) (sound-here d) (zero e))
+    ∙ woken-by t (parts t (sound-here d) .sizes .rules) (state d) after)
+    ∙ sym (answered-is t (postNumbers t (state d) (cell d) (value d)) (state d) (storedAndWoken t (state d) after) (sound-here d) (zero e))
 
 pub post-spec : {M : Type 1} → statement M
 post-spec =

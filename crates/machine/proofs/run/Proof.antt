@@ -6,12 +6,12 @@ use lib.ListN.{length}
 use borrow.Author.Needs.{needs}
 use Rattle.table.specs.Check.{Sound}
 use Rattle.table.specs.Memory.{tableFrom}
-use Rattle.steps.specs.declared.State.{State}
-use Rattle.steps.specs.State.{Fits, stateBad}
-use Rattle.steps.specs.StepLaws.{checked-sound}
-use Rattle.steps.specs.Run.{ran}
-use Rattle.steps.specs.RunLaws.{run-table, run-11, run-is}
-use Rattle.machine_step.specs.TurnLaws.{bad-by, few-at}
+use Rattle.machine_spec.specs.declared.State.{State}
+use Rattle.machine_spec.specs.State.{Fits, stateBad}
+use Rattle.machine_spec.proofs.StepLaws.{checked-sound}
+use Rattle.machine_spec.specs.Run.{ran}
+use Rattle.machine_spec.proofs.RunLaws.{run-table, run-11, run-is}
+use Rattle.machine_step.proofs.TurnLaws.{bad-by, few-at}
 use Rattle.machine.proofs.run.Statement.{statement}
 use Rattle.machine.proofs.run.Tie as tie
 

@@ -4,15 +4,17 @@ use mathlib.Core.List.{List}
 use Prim.Native.Nat.{ℕ}
 use lib.ListN.{length}
 use borrow.Author.Needs.{needs}
+use Rattle.mask.specs.First.{firstOf}
 use Rattle.table.specs.Check.{Sound}
-use Rattle.table.specs.Memory.{ruleFrom, tableFrom}
-use Rattle.steps.specs.declared.State.{State}
-use Rattle.steps.specs.State.{Fits}
-use Rattle.steps.specs.StateLaws.{fits-range}
-use Rattle.steps.specs.Step.{moved, effect, stepNumber, stepOf}
-use Rattle.steps.specs.StepLaws.{checked-sound, checked-refused, answered-own, answered-is, Stepping, stepping}
-use Rattle.machine_step.specs.Turn.{effectBy}
-use Rattle.machine_step.specs.TurnLaws.{few-at, sizes-at, slot-at, below-32, turn-is}
+use Rattle.table.specs.Memory.{tableFrom}
+use Rattle.table.specs.TableInner.{ruleFrom}
+use Rattle.machine_spec.specs.declared.State.{State}
+use Rattle.machine_spec.specs.State.{Fits}
+use Rattle.machine_spec.proofs.StateLaws.{fits-range}
+use Rattle.machine_spec.specs.Step.{moved, effect, stepNumbers, stepOf}
+use Rattle.machine_spec.proofs.StepLaws.{checked-sound, checked-refused, answered-own, answered-is, Stepping, stepping}
+use Rattle.machine_step.specs.MachineStepInner.{effectBy}
+use Rattle.machine_step.proofs.TurnLaws.{few-at, sizes-at, slot-at, below-32, turn-is}
 use Rattle.machine.proofs.step.Statement.{statement}
 use Rattle.machine.proofs.step.Tie as tie
 
@@ -23,7 +25,7 @@ returns c =
     let a = k .before .args in
     let t = tableFrom (a .table .now) in
     c .answer .ensures
-    ∙ checked-refused t (k .check .result) (k .check .ensures) (c .before .if1 .taken) (stepNumber t (a .s) (a .r)) (a .s)
+    ∙ checked-refused t (k .check .result) (k .check .ensures) (c .before .if1 .taken) (stepNumbers t (a .s) (a .r)) (a .s)
     (effect t (a .s) (a .r))
 
 -- past the first test
@@ -53,7 +55,7 @@ returns-2 c =
     let t = tableFrom (image d) in
     c .answer2 .ensures
     ∙ ap (λ (x : ℕ). moved x 255 (state d)) (p .step-number .ensures)
-    ∙ sym (answered-own t (stepNumber t (state d) (rule d)) (state d) (effect t (state d) (rule d)) (sound-here d)
+    ∙ sym (answered-own t (stepNumbers t (state d) (rule d)) (state d) (effect t (state d) (rule d)) (sound-here d)
     (λ z. c .before .if2 .taken (p .step-number .ensures ∙ z)))
 
 -- past the second
@@ -61,7 +63,7 @@ module _ (c : tie.Else2) where
   abbrev early : tie.Else1
   early = c .before .before .before .before .before
 
-  own : stepNumber (tableFrom (image early)) (state early) (rule early) ≡ 0
+  own : firstOf 0 (stepNumbers (tableFrom (image early)) (state early) (rule early)) ≡ 0
   own = sym (c .before .step-number .ensures) ∙ c .if2 .left
 
   free : Stepping (tableFrom (image early)) (state early) (rule early)
@@ -102,7 +104,7 @@ returns-3 c =
     (c .before .joined .ensures ∙ u .turn .ensures
     ∙ ap (λ (row : List ℕ). effectBy (ruleFrom (image d) (rule d)) row (state d) (rule d)) (w .watches .ensures)
     ∙ turn-is (image d) long (sound-here d) (rule d) (free e .below) (state d))
-    ∙ sym (answered-is t (stepNumber t (state d) (rule d)) (state d) (effect t (state d) (rule d)) (sound-here d) (own e))
+    ∙ sym (answered-is t (stepNumbers t (state d) (rule d)) (state d) (effect t (state d) (rule d)) (sound-here d) (own e))
 
 pub step-spec : {M : Type 1} → statement M
 step-spec =
@@ -119,5 +121,4 @@ step-spec =
     watches-requires
     turn-requires
     (λ c κs. search needs)
-    (λ c κs. search needs)
-    returns-3)
+    (λ c κs. search needs) returns-3)

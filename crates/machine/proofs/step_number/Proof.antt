@@ -1,45 +1,46 @@
--- Each return is the first case of `stepNumber` whose test held; the tests before it did not.
+-- Each return is the first of `stepNumbers` whose test held; the tests before it did not.
 use mathlib.Core.Path.{_≡_, refl, sym, ap, _∙_}
-use mathlib.Core.Bool.{Bool, false, cond, _&&_}
+use mathlib.Core.Bool.{Bool, true, false, _&&_}
 use mathlib.Core.List.{List}
 use Prim.Native.Nat.{ℕ, _≤_, _<_}
 use native.Mathlib.Omega.{arith}
 use lib.ListN.{getD}
-use borrow.Author.Tests.{not-true, not-false}
+use borrow.Author.Tests.{le-leb, lt-leb, not-true, not-false}
 use borrow.Author.Needs.{needs}
-use Rattle.mask.specs.SearchLaws.{some-same}
+use Rattle.mask.proofs.SearchLaws.{some-same}
 use Rattle.mask.specs.Mask.{has}
-use Rattle.endian.specs.Little.{byteAt}
-use Rattle.table.specs.Table.{goesBefore}
+use Rattle.bytes.specs.Little.{byteAt}
+use Rattle.table.specs.Table.{Table, goesBefore}
 use Rattle.table.specs.Memory.{tableFrom}
-use Rattle.steps.specs.State.{stateBad, waits, held}
-use Rattle.steps.specs.Step.{stepNumber}
-use Rattle.steps.specs.StepLaws.{number-11, number-12, number-13, number-14}
-use Rattle.machine_step.specs.Turn.{stateOf}
-use Rattle.machine_step.specs.TurnLaws.{bad-by}
+use Rattle.machine_spec.specs.declared.State.{State}
+use Rattle.machine_spec.specs.State.{stateBad, waits, heldBack}
+use Rattle.machine_spec.specs.Step.{stepNumbers}
+use Rattle.machine_step.specs.MachineStepInner.{stateOf}
+use Rattle.machine_step.proofs.TurnLaws.{bad-by}
 use Rattle.machine.proofs.step_number.Statement.{statement}
 use Rattle.machine.proofs.step_number.Tie as tie
+
+module _ (c : tie.Start) where
+  abbrev table : Table
+  table = tableFrom (c .args .table .now)
+
+  abbrev state : State
+  state = stateOf (c .args .cells .now) (c .args .m)
 
 rules : (s : List ℕ) → tableFrom s .n ≡ byteAt s 1
 unfolding tableFrom
 rules s = refl
 
 -- the test of 11 is the table's
-fit : (c : tie.After-state-bad) → let a = c .before .before .before .before .args in
-    c .state-bad .result ≡ stateBad (tableFrom (a .table .now)) (stateOf (a .cells .now) (a .m))
-fit c =
-    let a = c .before .before .before .before .args in
-    c .state-bad .ensures ∙ bad-by (a .table .now) (stateOf (a .cells .now) (a .m))
+fit : (c : tie.After-state-bad) → let b = c .before .before .before .before in c .state-bad .result ≡ stateBad (table b) (state b)
+fit c = let b = c .before .before .before .before in c .state-bad .ensures ∙ bad-by (b .args .table .now) (state b)
 
 returns : tie.Need-returns
-returns c =
-    let a = c .before .before .before .before .before .args in
-    sym (number-11 (tableFrom (a .table .now)) (stateOf (a .cells .now) (a .m)) (a .r)
-    (sym (fit (c .before)) ∙ c .if1 .taken))
+unfolding stepNumbers
+returns c = rw (sym (fit (c .before)) ∙ c .if1 .taken)
 
 -- past the first test
-fits : (c : tie.Else1) → let a = c .before .before .before .before .before .args in
-    stateBad (tableFrom (a .table .now)) (stateOf (a .cells .now) (a .m)) ≡ false
+fits : (c : tie.Else1) → let b = c .before .before .before .before .before in stateBad (table b) (state b) ≡ false
 fits c = sym (fit (c .before)) ∙ c .if1 .left
 
 module _ (c : tie.After-count) where
@@ -47,29 +48,33 @@ module _ (c : tie.After-count) where
   few = omega (arith, c .count .ensures .0, c .before .before .before .before .before .before .before .pre .few-rules)
 
 returns-2 : tie.Need-returns-2
+unfolding stepNumbers
 returns-2 c =
     let d = c .before .before .before in
-    let a = d .before .before .before .before .before .args in
-    sym (number-12 (tableFrom (a .table .now)) (stateOf (a .cells .now) (a .m)) (a .r) (fits d)
-    (omega (arith, c .if2 .taken, rules (a .table .now), c .before .count .ensures .0)))
+    let b = d .before .before .before .before .before in
+    rw (
+      fits d,
+      le-leb (table b .n) (b .args .r) (omega (arith, c .if2 .taken, rules (b .args .table .now), c .before .count .ensures .0)),
+    )
 
 -- past the second test r is a rule of the table
-below : (c : tie.Else2) → let a = c .before .before .before .before .before .before .before .before .args in
-    a .r < tableFrom (a .table .now) .n
+below : (c : tie.Else2) → let b = c .before .before .before .before .before .before .before .before in b .args .r < table b .n
 below c =
-    let a = c .before .before .before .before .before .before .before .before .args in
-    omega (arith, c .if2 .left, rules (a .table .now), c .before .count .ensures .0)
+    let b = c .before .before .before .before .before .before .before .before in
+    omega (arith, c .if2 .left, rules (b .args .table .now), c .before .count .ensures .0)
 
 has-requires : tie.Need-has-requires
 has-requires c κs = omega (arith, few (c .before), c .if2 .left)
 
 returns-3 : tie.Need-returns-3
+unfolding stepNumbers
 returns-3 c =
     let d = c .before .before in
     let e = d .before .before .before in
-    let a = e .before .before .before .before .before .args in
-    sym (number-13 (tableFrom (a .table .now)) (stateOf (a .cells .now) (a .m)) (a .r) (fits e) (below d)
-    (sym (c .before .has .ensures) ∙ not-true (c .before .has .result) (c .if3 .taken)))
+    let b = e .before .before .before .before .before in
+    let asleep : waits (state b) (b .args .r) ≡ false =
+    sym (c .before .has .ensures) ∙ not-true (c .before .has .result) (c .if3 .taken) in
+    rw (fits e, lt-leb (table b .n) (b .args .r) (below d), asleep)
 
 goes-before-requires : tie.Need-goes-before-requires
 goes-before-requires c κs =
@@ -80,30 +85,46 @@ has-requires-2 c κs =
     let d = c .before .before .before .before .before in omega (arith, few (d .before), d .if2 .left)
 
 -- past the first three tests the last decides: whether a waiting rule goes before r
-last : (c : tie.After-has2) →
-    let a = c .before .before .before .before .before .before .before .before .before .before .before .before .before .before .args in
-    stepNumber (tableFrom (a .table .now)) (stateOf (a .cells .now) (a .m)) (a .r) ≡ cond (c .has2 .result) 14 0
-unfolding held
-last c =
-    let g = c .before .before .before in
-    let f = g .before in
-    let d = f .before .before in
-    let e = d .before .before .before in
-    let a = e .before .before .before .before .before .args in
-    let t = tableFrom (a .table .now) in
-    let s = stateOf (a .cells .now) (a .m) in
-    let holder : c .has2 .result ≡ held t s (a .r) =
-    c .has2 .ensures ∙ c .before .gather .ensures (a .r)
-    ∙ some-same 32 (λ x. waits s x && has (getD (g .goes-before .result) x 0) (a .r)) (λ x. waits s x && goesBefore t x (a .r))
-    (λ x l. ap (λ (b : Bool). waits s x && b) (g .goes-before .ensures x (a .r))) in
-    number-14 t s (a .r) (fits e) (below d) (sym (f .before .has .ensures) ∙ not-false (f .before .has .result) (f .if3 .left))
-    ∙ ap (λ (b : Bool). cond b 14 0) (sym holder)
+module _ (c : tie.After-has2) where
+  abbrev third : tie.Else3
+  third = c .before .before .before .before
+
+  abbrev second : tie.Else2
+  second = third .before .before
+
+  abbrev first : tie.Else1
+  first = second .before .before .before
+
+  abbrev start : tie.Start
+  start = first .before .before .before .before .before
+
+  holder : c .has2 .result ≡ heldBack (table start) (state start) (start .args .r)
+  unfolding heldBack
+  holder =
+      let t = table start in
+      let s = state start in
+      let r = start .args .r in
+      let g = c .before .before .before in
+      c .has2 .ensures ∙ c .before .gather .ensures r
+      ∙ some-same 32 (λ x. waits s x && has (getD (g .goes-before .result) x 0) r) (λ x. waits s x && goesBefore t x r)
+      (λ x l. ap (λ (b : Bool). waits s x && b) (g .goes-before .ensures x r))
+
+  awake : waits (state start) (start .args .r) ≡ true
+  awake = sym (third .before .has .ensures) ∙ not-false (third .before .has .result) (third .if3 .left)
 
 returns-4 : tie.Need-returns-4
-returns-4 c = sym (last (c .before) ∙ rw (c .if4 .taken))
+unfolding stepNumbers
+returns-4 c =
+    let h = c .before in
+    let b = start h in
+    rw (fits (first h), lt-leb (table b .n) (b .args .r) (below (second h)), awake h, sym (holder h) ∙ c .if4 .taken)
 
 returns-5 : tie.Need-returns-5
-returns-5 c = sym (last (c .before) ∙ rw (c .if4 .left))
+unfolding stepNumbers
+returns-5 c =
+    let h = c .before in
+    let b = start h in
+    rw (fits (first h), lt-leb (table b .n) (b .args .r) (below (second h)), awake h, sym (holder h) ∙ c .if4 .left)
 
 pub step-number-spec : {M : Type 1} → statement M
 step-number-spec =

@@ -1,15 +1,18 @@
 -- Of the cells passed, one does not fit exactly when `bad`.
 use Prim.Native.Nat.{_≤_, _-_}
+use mathlib.Core.Bool.{Bool, not, _&&_, _||_}
 use mathlib.Core.Path.{ap₂, ap, _∙_}
 use lib.Dec.{ltb}
+use lib.IntN.{ℤ}
 use mir.Syntax.{w64}
 use mir.Val.{SFits}
 use mir.Facts.{toZ-ofZ}
 use borrow.Author.Needs.{needs, sfits-of}
-use Rattle.mask.specs.Loops.{Sought, sought-none, sought-more, sought-all}
-use Rattle.rule.specs.Numbers.{notZeroZ, outOfRange, slotted}
-use Rattle.amounts.specs.Amounts.{at}
-use Rattle.steps.specs.State.{cellBad}
+use Rattle.mask.proofs.SearchLaws.{branch-free}
+use Rattle.mask.proofs.LoopsLaws.{Sought, sought-none, sought-more, sought-all}
+use Rattle.rule.specs.Numbers.{notZeroZ, outOfRange}
+use Rattle.rule_act.specs.Amounts.{at}
+use Rattle.machine_spec.specs.State.{cellBad}
 use Rattle.machine_step.proofs.cells_bad.Statement.{statement}
 use Rattle.machine_step.proofs.cells_bad.Tie as tie
 
@@ -25,11 +28,15 @@ loop-holds c = (search needs, sought-none)
 loop-again : tie.Need-loop-again Inv-loop μ-loop
 loop-again c =
     let l = c .before .before .before .loop in
-    let v : SFits w64 (at (c .before .before .before .before .args .cells .now) (l .c)) = sfits-of (c .before .v .given) in (
+    let a = c .before .before .before .before .args in
+    let z : ℤ = at (a .cells .now) (l .c) in
+    let below : Bool = ltb (l .c) (a .k) in
+    let v : SFits w64 z = sfits-of (c .before .v .given) in (
       search needs,
       sought-more (l .inv .1)
-          (ap₂ (slotted (ltb (l .c) (c .before .before .before .before .args .k)))
-          (c .out-of-range .ensures ∙ ap outOfRange (toZ-ofZ v)) (ap notZeroZ (toZ-ofZ v))),
+          (ap₂ (λ (x y : Bool). (below && x) || (not below && y)) (c .out-of-range .ensures ∙ ap outOfRange (toZ-ofZ v))
+          (ap notZeroZ (toZ-ofZ v))
+          ∙ branch-free below (outOfRange z) (notZeroZ z)),
     )
 
 returns : tie.Need-returns Inv-loop μ-loop

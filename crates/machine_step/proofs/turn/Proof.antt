@@ -2,9 +2,9 @@
 use mathlib.Core.Path.{sym, _∙_}
 use native.Mathlib.Omega.{arith}
 use borrow.Author.Needs.{needs}
-use Rattle.table.specs.Memory.{ruleFrom}
-use Rattle.machine_step.specs.Turn.{stateOf}
-use Rattle.machine_step.specs.TurnLaws.{turn-false, turn-out, turn-stored}
+use Rattle.table.specs.TableInner.{ruleFrom}
+use Rattle.machine_step.specs.MachineStepInner.{stateOf}
+use Rattle.machine_step.proofs.TurnLaws.{turn-false, turn-out, turn-stored}
 use Rattle.machine_step.proofs.turn.Statement.{statement}
 use Rattle.machine_step.proofs.turn.Tie as tie
 

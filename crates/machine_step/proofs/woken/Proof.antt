@@ -5,7 +5,7 @@ use native.Mathlib.Omega.{arith}
 use lib.ListN.{getD}
 use borrow.Author.Needs.{needs}
 use Rattle.mask.specs.Mask.{has, meet}
-use Rattle.mask.specs.Loops.{maskOf-unique}
+use Rattle.mask.proofs.LoopsLaws.{maskOf-unique}
 use Rattle.machine_step.proofs.woken.Statement.{statement}
 use Rattle.machine_step.proofs.woken.Tie as tie
 

@@ -4,8 +4,8 @@ use Prim.Native.Nat.{ℕ, _-_}
 use native.Mathlib.Omega.{arith}
 use lib.Pow.{pow-pos, pow-mono}
 use Rattle.mask.specs.Mask.{has}
-use Rattle.mask.specs.Bits.{has-ones}
-use Rattle.mask.specs.MaskLaws.{wide-shl}
+use Rattle.mask.proofs.BitsLaws.{has-ones}
+use Rattle.mask.proofs.MaskLaws.{wide-shl}
 use borrow.Author.Needs.{needs}
 use Rattle.mask.proofs.below.Statement.{statement}
 use Rattle.mask.proofs.below.Tie as tie

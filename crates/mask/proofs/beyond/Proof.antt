@@ -2,7 +2,7 @@
 use mathlib.Core.Path.{ap, _∙_}
 use Prim.Native.Nat.{ℕ}
 use lib.Dec.{leb}
-use Rattle.mask.specs.MaskLaws.{wide-shl, beyond-law}
+use Rattle.mask.proofs.MaskLaws.{wide-shl, beyond-law}
 use borrow.Author.Needs.{needs}
 use Rattle.mask.proofs.beyond.Statement.{statement}
 use Rattle.mask.proofs.beyond.Tie as tie

@@ -1,4 +1,5 @@
-use Rattle.mask.specs.Bits.{has-and}
+-- Bit by bit, `&` is `&&`.
+use Rattle.mask.proofs.BitsLaws.{has-and}
 use Rattle.mask.proofs.common.Statement.{statement}
 use Rattle.mask.proofs.common.Tie as tie
 

@@ -4,9 +4,10 @@ use mathlib.Core.Path.{_≡_, subst}
 use mathlib.Core.Bool.{true}
 use Prim.Native.Nat.{ℕ, _<_, _^_}
 use native.Mathlib.Omega.{arith}
-use Rattle.mask.specs.Mask.{has, lowest}
-use Rattle.mask.specs.MaskLaws.{lowest-has, fewer}
-use Rattle.mask.specs.Loops.{Gathering, gathering-start, gathering-turn, gathering-end}
+use Rattle.mask.specs.Mask.{has}
+use Rattle.mask.specs.MaskInner.{lowest}
+use Rattle.mask.proofs.MaskLaws.{lowest-has, fewer}
+use Rattle.mask.proofs.LoopsLaws.{Gathering, gathering-start, gathering-turn, gathering-end}
 use borrow.Author.Needs.{needs}
 use Rattle.mask.proofs.gather.Statement.{statement}
 use Rattle.mask.proofs.gather.Tie as tie
@@ -55,14 +56,4 @@ returns c =
 pub gather-spec : {M : Type 1} → statement M
 gather-spec =
     tie.close
-    (tie.spec
-    Inv-loop
-    μ-loop
-    loop-holds
-    (λ c κs. search needs)
-    mul-a
-    element-copy-out-a
-    without-requires
-    loop-less
-    loop-again
-    returns)
+    (tie.spec Inv-loop μ-loop loop-holds (λ c κs. search needs) mul-a element-copy-out-a without-requires loop-less loop-again returns)

@@ -1,3 +1,4 @@
+-- The bit of a number is what is left of it after the shift, modulo 2.
 use mathlib.Core.Path.{ap}
 use Prim.Native.Nat.{ℕ, _/_, _^_}
 use lib.Dec.{eqb}

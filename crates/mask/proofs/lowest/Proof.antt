@@ -1,7 +1,7 @@
 -- The count of zeros below the lowest digit of a number of 32 digits is the least of its members.
 use native.Mathlib.Omega.{arith}
-use Rattle.mask.specs.Mask.{lowest}
-use Rattle.mask.specs.MaskLaws.{zeros-least, lowest-is}
+use Rattle.mask.specs.MaskInner.{lowest}
+use Rattle.mask.proofs.MaskLaws.{zeros-least, lowest-is}
 use Rattle.mask.proofs.lowest.Statement.{statement}
 use Rattle.mask.proofs.lowest.Tie as tie
 

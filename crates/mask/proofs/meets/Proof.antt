@@ -1,4 +1,5 @@
-use Rattle.mask.specs.MaskLaws.{meet-law}
+-- What both have is 0 exactly when they share no member.
+use Rattle.mask.proofs.MaskLaws.{meet-law}
 use Rattle.mask.proofs.meets.Statement.{statement}
 use Rattle.mask.proofs.meets.Tie as tie
 

@@ -5,7 +5,7 @@ use Prim.Native.Nat.{_≤_, _-_}
 use native.Mathlib.Omega.{arith}
 use lib.ListN.{getD}
 use Rattle.mask.specs.Mask.{meet}
-use Rattle.mask.specs.Loops.{Picked, picked-none, picked-skip, picked-take, picked-all}
+use Rattle.mask.proofs.LoopsLaws.{Picked, picked-none, picked-skip, picked-take, picked-all}
 use borrow.Author.Needs.{needs}
 use Rattle.mask.proofs.touching.Statement.{statement}
 use Rattle.mask.proofs.touching.Tie as tie
@@ -37,15 +37,5 @@ returns c s l = picked-all _ _ _ (c .before .loop .inv .1) s (omega arith)
 pub touching-spec : {M : Type 1} → statement M
 touching-spec =
     tie.close
-    (tie.spec
-    Inv-loop
-    μ-loop
-    loop-holds
-    (λ c. search needs)
-    (λ c. search needs)
-    (λ c κs. search needs)
-    (λ c κs. search needs)
-    (λ c. search needs)
-    (λ c. search needs)
-    loop-again
-    returns)
+    (tie.spec Inv-loop μ-loop loop-holds (λ c. search needs) (λ c. search needs) (λ c κs. search needs) (λ c κs. search needs)
+    (λ c. search needs) (λ c. search needs) loop-again returns)

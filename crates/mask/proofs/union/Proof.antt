@@ -1,4 +1,5 @@
-use Rattle.mask.specs.Bits.{has-or}
+-- Bit by bit, `|` is `||`.
+use Rattle.mask.proofs.BitsLaws.{has-or}
 use Rattle.mask.proofs.union.Statement.{statement}
 use Rattle.mask.proofs.union.Tie as tie
 

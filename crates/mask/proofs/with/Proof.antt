@@ -1,4 +1,5 @@
-use Rattle.mask.specs.MaskLaws.{has-with}
+-- One bit more.
+use Rattle.mask.proofs.MaskLaws.{has-with}
 use borrow.Author.Needs.{needs}
 use Rattle.mask.proofs.with.Statement.{statement}
 use Rattle.mask.proofs.with.Tie as tie

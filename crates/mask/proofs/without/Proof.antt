@@ -1,4 +1,5 @@
-use Rattle.mask.specs.MaskLaws.{has-without}
+-- The bit put in, so that taking it out again cannot add it.
+use Rattle.mask.proofs.MaskLaws.{has-without}
 use borrow.Author.Needs.{needs}
 use Rattle.mask.proofs.without.Statement.{statement}
 use Rattle.mask.proofs.without.Tie as tie

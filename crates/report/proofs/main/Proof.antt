@@ -2,13 +2,13 @@
 use mathlib.Core.Path.{sym}
 use native.Mathlib.Omega.{arith}
 use lib.Seq.{length-take-le}
-use Rattle.lines.specs.LinesLaws.{within}
+use Rattle.report_lines.proofs.LinesLaws.{length-within}
 use borrow.Author.Needs.{needs}
 use Rattle.report.proofs.main.Statement.{statement}
 use Rattle.report.proofs.main.Tie as tie
 
 array-share-prefix-out : tie.Need-array-share-prefix-out
-array-share-prefix-out c = omega (arith, within (c .before .lines .ensures) .0, c .before .lines .kept .1 .0)
+array-share-prefix-out c = omega (arith, length-within (c .before .lines .ensures) .0, c .before .lines .kept .1 .0)
 
 slice-aggregate-write-all : tie.Need-slice-aggregate-write-all
 slice-aggregate-write-all c = sym (length-take-le _ _ (array-share-prefix-out (c .before)))

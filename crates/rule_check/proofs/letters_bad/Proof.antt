@@ -1,7 +1,7 @@
 -- Of the letters passed, one is bad exactly when `bad`.
 use Prim.Native.Nat.{_+_, _≤_, _-_}
-use Rattle.mask.specs.Loops.{Sought, sought-none, sought-more, sought-all}
-use Rattle.endian.specs.Little.{byteAt}
+use Rattle.mask.proofs.LoopsLaws.{Sought, sought-none, sought-more, sought-all}
+use Rattle.bytes.specs.Little.{byteAt}
 use Rattle.rule.specs.Numbers.{letterBad}
 use borrow.Author.Needs.{needs}
 use Rattle.rule_check.proofs.letters_bad.Statement.{statement}
@@ -13,26 +13,10 @@ Inv-loop s p m bad₀ j₀ bad j = (j ≤ m) × Sought (λ x. letterBad (byteAt 
 abbrev μ-loop : tie.MeasureT-loop
 μ-loop s p m bad₀ j₀ bad j = m - j
 
-loop-holds : tie.Need-loop-holds Inv-loop μ-loop
-loop-holds c = (search needs, sought-none)
-
-loop-again : tie.Need-loop-again Inv-loop μ-loop
-loop-again c = (search needs, sought-more (c .before .before .before .loop .inv .1) (c .letter-bad .ensures))
-
-returns : tie.Need-returns Inv-loop μ-loop
-returns c = sought-all (c .before .loop .inv .1) (c .before .loop .inv .0) (c .loop-test .left)
-
 pub letters-bad-spec : {M : Type 1} → statement M
 letters-bad-spec =
     tie.close
-    (tie.spec
-    Inv-loop
-    μ-loop
-    loop-holds
-    (λ c. search needs)
-    (λ c. search needs)
-    (λ c κs. search needs)
-    (λ c. search needs)
-    (λ c. search needs)
-    loop-again
-    returns)
+    (tie.spec Inv-loop μ-loop (λ c. (search needs, sought-none)) (λ c. search needs) (λ c. search needs) (λ c κs. search needs)
+    (λ c. search needs) (λ c. search needs)
+    (λ c. (search needs, sought-more (c .before .before .before .loop .inv .1) (c .letter-bad .ensures)))
+    (λ c. sought-all (c .before .loop .inv .1) (c .before .loop .inv .0) (c .loop-test .left)))

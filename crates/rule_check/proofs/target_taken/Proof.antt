@@ -2,8 +2,8 @@
 use mathlib.Core.Path.{refl}
 use Prim.Native.Nat.{_+_, _*_, _≤_, _-_}
 use lib.Dec.{eqb}
-use Rattle.mask.specs.Loops.{Sought, sought-none, sought-more, sought-all}
-use Rattle.endian.specs.Little.{byteAt}
+use Rattle.mask.proofs.LoopsLaws.{Sought, sought-none, sought-more, sought-all}
+use Rattle.bytes.specs.Little.{byteAt}
 use borrow.Author.Needs.{needs}
 use Rattle.rule_check.proofs.target_taken.Statement.{statement}
 use Rattle.rule_check.proofs.target_taken.Tie as tie
@@ -14,29 +14,10 @@ Inv-loop s p j y bad₀ i₀ bad i = (i ≤ j) × Sought (λ x. eqb (byteAt s (p
 abbrev μ-loop : tie.MeasureT-loop
 μ-loop s p j y bad₀ i₀ bad i = j - i
 
-loop-holds : tie.Need-loop-holds Inv-loop μ-loop
-loop-holds c = (search needs, sought-none)
-
-loop-again : tie.Need-loop-again Inv-loop μ-loop
-loop-again c = (search needs, sought-more (c .before .before .loop .inv .1) refl)
-
-returns : tie.Need-returns Inv-loop μ-loop
-returns c = sought-all (c .before .loop .inv .1) (c .before .loop .inv .0) (c .loop-test .left)
-
 pub target-taken-spec : {M : Type 1} → statement M
 target-taken-spec =
     tie.close
-    (tie.spec
-    Inv-loop
-    μ-loop
-    (λ c. search needs)
-    (λ c. search needs)
-    (λ c. search needs)
-    loop-holds
-    (λ c. search needs)
-    (λ c. search needs)
-    (λ c. search needs)
-    (λ c. search needs)
-    (λ c. search needs)
-    loop-again
-    returns)
+    (tie.spec Inv-loop μ-loop (λ c. search needs) (λ c. search needs) (λ c. search needs) (λ c. (search needs, sought-none))
+    (λ c. search needs) (λ c. search needs) (λ c. search needs) (λ c. search needs) (λ c. search needs)
+    (λ c. (search needs, sought-more (c .before .before .loop .inv .1) refl))
+    (λ c. sought-all (c .before .loop .inv .1) (c .before .loop .inv .0) (c .loop-test .left)))

@@ -2,9 +2,9 @@
 use mathlib.Core.Path.{_≡_, refl}
 use Prim.Native.Nat.{_≤_, _-_}
 use lib.ListN.{length, getD}
-use Rattle.mask.specs.Loops.{Sought, sought-none, sought-more, sought-all}
+use Rattle.mask.proofs.LoopsLaws.{Sought, sought-none, sought-more, sought-all}
 use Rattle.rule.specs.Numbers.{notZero}
-use Rattle.table.specs.Image.{anySet}
+use Rattle.table.specs.TableInner.{anySet}
 use borrow.Author.Needs.{needs}
 use Rattle.table.proofs.any_set.Statement.{statement}
 use Rattle.table.proofs.any_set.Tie as tie

@@ -1,20 +1,19 @@
 -- Each return is the first case of `checkOf` whose test held; the tests before it did not.
 use mathlib.Core.Path.{_≡_, refl, sym, ap, ap₂, _∙_}
-use mathlib.Core.Bool.{false, cond}
+use mathlib.Core.Bool.{Bool, false, cond}
 use mathlib.Core.List.{List}
 use Prim.Native.Nat.{ℕ, _≤_}
 use native.Mathlib.Omega.{arith}
 use lib.Dec.{ltb}
 use borrow.Author.Tests.{lt-ltb, le-ltb}
-use Rattle.mask.specs.Search.{some}
-use Rattle.graph.specs.Graph.{leads}
-use Rattle.endian.specs.Little.{byteAt}
+use Rattle.graph.specs.Graph.{cyclic}
+use Rattle.bytes.specs.Little.{byteAt}
 use Rattle.table.specs.declared.Answer.{Answer}
-use Rattle.table.specs.Table.{goesBefore}
-use Rattle.table.specs.Check.{answer, done, sizesBad, firstBad, cyclic, checkOf}
-use Rattle.table.specs.Sound.{Sized, sized}
+use Rattle.table.specs.Table.{Table, precedesOf}
+use Rattle.table.specs.Check.{answer, done, sizesBad, firstBad, checkOf}
+use Rattle.table.proofs.SoundLaws.{Sized, sized}
 use Rattle.table.specs.Memory.{tableFrom}
-use Rattle.table.specs.ImageLaws.{judged-good, judged-bad}
+use Rattle.table.proofs.ImageLaws.{judged-good, judged-bad}
 use borrow.Author.Needs.{needs}
 use Rattle.table.proofs.check.Statement.{statement}
 use Rattle.table.proofs.check.Tie as tie
@@ -55,7 +54,8 @@ returns-2 c =
     (λ z. c .if2 .taken (ap (λ (a : Answer). a .number) (j .judge .ensures .0) ∙ z))
 
 -- past the second test no rule has a number
-rules-good : (c : tie.Else2) → let s = image (c .before .before .before .before .before) in ltb (firstBad (tableFrom s)) (tableFrom s .n) ≡ false
+rules-good : (c : tie.Else2)
+    → let t = tableFrom (image (c .before .before .before .before .before)) in ltb (firstBad t) (t .n) ≡ false
 rules-good c =
     let j = c .before .before in
     judged-good (tableFrom (image (j .before .before .before))) (ap (λ (a : Answer). a .number) (sym (j .judge .ensures .0)) ∙ c .if2 .left)
@@ -70,11 +70,15 @@ module _ (c : tie.After-count) where
 first-slot-requires : tie.Need-first-slot-requires
 first-slot-requires c κs = (search needs, counted (c .before), few (c .before))
 
+-- whether 10 applies
+abbrev circular : Table → Bool
+circular t = cyclic (t .n) (precedesOf t)
+
 -- past two tests: the slots, then the cycle
 rest : (c : tie.After-first-slot)
     → let s = image (c .before .before .before .before .before .before .before .before) in
     checkOf (tableFrom s)
-    ≡ cond (ltb (c .first-slot .result) 32) (answer 7 (c .first-slot .result)) (cond (cyclic (tableFrom s)) (answer 10 255) done)
+    ≡ cond (ltb (c .first-slot .result) 32) (answer 7 (c .first-slot .result)) (cond (circular (tableFrom s)) (answer 10 255) done)
 unfolding checkOf tableFrom
 rest c =
     let e = c .before .before .before in
@@ -86,17 +90,18 @@ returns-3 c = sym (rest (c .before) ∙ rw (lt-ltb (c .before .first-slot .resul
 row-cyclic-requires : tie.Need-row-cyclic-requires
 row-cyclic-requires c κs = few (c .before .before .before)
 
+abbrev table : tie.After-row-cyclic → Table
+table c = tableFrom (image (c .before .before .before .before .before .before .before .before .before .before))
+
 -- the row that was filled in on the way
-circles : (c : tie.After-row-cyclic) → let s = image (c .before .before .before .before .before .before .before .before .before .before) in cyclic (tableFrom s) ≡ c .row-cyclic .result
-unfolding cyclic goesBefore tableFrom
+circles : (c : tie.After-row-cyclic) → circular (table c) ≡ c .row-cyclic .result
+unfolding tableFrom
 circles c =
     let e = c .before .before .before .before .before in
     sym (c .row-cyclic .ensures
-    ∙ ap₂ (λ (q : List ℕ) (m : ℕ). some m (λ x. leads q m x x)) (e .before .before .judge .ensures .1 (e .if2 .left))
-    (counted (c .before .before .before .before)))
+    ∙ ap₂ cyclic (counted (c .before .before .before .before)) (e .before .before .judge .ensures .1 (e .if2 .left)))
 
-last : (c : tie.After-row-cyclic)
-    → let s = image (c .before .before .before .before .before .before .before .before .before .before) in checkOf (tableFrom s) ≡ cond (c .row-cyclic .result) (answer 10 255) done
+last : (c : tie.After-row-cyclic) → checkOf (table c) ≡ cond (c .row-cyclic .result) (answer 10 255) done
 last c =
     let d = c .before in
     rest (d .before) ∙ rw (le-ltb (d .before .first-slot .result) 32 (d .if3 .left), circles c)

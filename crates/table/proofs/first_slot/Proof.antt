@@ -6,11 +6,12 @@ use native.Mathlib.Nat.{le-refl}
 use native.Mathlib.Omega.{arith}
 use lib.ListN.{length}
 use borrow.Author.Tests.{not-true}
-use Rattle.mask.specs.Loops.{Passed, passed-more, passed-here, passed-all}
-use Rattle.endian.specs.Stands.{Bytes}
+use Rattle.mask.proofs.LoopsLaws.{Passed, passed-more, passed-here, passed-all}
+use Rattle.bytes.specs.EachByte.{Bytes}
 use Rattle.table.specs.Check.{firstSlot}
-use Rattle.table.specs.Memory.{slotStart, tableFrom}
-use Rattle.table.specs.SlotLaws.{setIn, part-set, slotBad, passed-mine, slot-here, none-set}
+use Rattle.table.specs.Memory.{tableFrom}
+use Rattle.table.specs.TableInner.{slotStart}
+use Rattle.table.proofs.TableSlotLaws.{setIn, part-set, slotBad, passed-mine, slot-here, none-set}
 use borrow.Author.Needs.{needs}
 use Rattle.table.proofs.first_slot.Statement.{statement}
 use Rattle.table.proofs.first_slot.Tie as tie

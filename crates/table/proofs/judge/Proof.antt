@@ -1,23 +1,25 @@
 -- No rule passed has a number, and the rows hold their names and their precedes masks.
-use mathlib.Core.Path.{_≡_, sym, ap, ap₂, _∙_, subst}
+use mathlib.Core.Path.{_≡_, sym, ap, ap₂, _∙_, subst₂}
 use mathlib.Core.Bool.{Bool}
 use mathlib.Core.List.{List}
 use Prim.Native.Nat.{ℕ, _+_, _*_, _≤_, _<_, _-_}
 use native.Mathlib.Omega.{arith}
 use lib.ListN.{length, set}
-use Rattle.mask.specs.Loops.{Passed, passed-none, passed-more}
-use Rattle.endian.specs.Little.{byteAt}
-use Rattle.endian.specs.Stands.{Bytes}
+use Rattle.mask.proofs.LoopsLaws.{Passed, passed-none, passed-more}
+use Rattle.bytes.specs.Little.{byteAt}
+use Rattle.bytes.specs.EachByte.{Bytes}
 use Rattle.rule.specs.declared.Rule.{Rule}
-use Rattle.rule.specs.Fill.{filled, filled-more}
+use Rattle.rule.specs.Fill.{filled}
+use Rattle.rule.proofs.FillLaws.{filled-more}
 use Rattle.rule.specs.Numbers.{notZero, ruleNumber}
-use Rattle.rule_check.specs.With.{numberWith}
-use Rattle.rule_check.specs.Names.{takenIn}
-use Rattle.rule_check.specs.NamesLaws.{Named, named-none, named-more, number-named}
+use Rattle.rule_check.specs.RuleCheckInner.{numberWith, takenIn}
+use Rattle.rule_check.proofs.NamesLaws.{Named, named-none, named-more, number-named}
 use Rattle.table.specs.Table.{ruleAt}
 use Rattle.table.specs.Check.{numberAt}
-use Rattle.table.specs.Memory.{ruleFrom, tableFrom}
-use Rattle.table.specs.ImageLaws.{number-from, rule-from, from-long, from-bytes, low-word, high-word, slot-lies, judged-here, judged-none}
+use Rattle.table.specs.Memory.{tableFrom}
+use Rattle.table.specs.TableInner.{ruleFrom}
+use Rattle.table.proofs.ImageLaws.{number-from, rule-from, from-long, from-bytes, low-word, high-word, slot-lies}
+use Rattle.table.proofs.ImageLaws.{judged-here, judged-none}
 use borrow.Author.Needs.{needs}
 use Rattle.table.proofs.judge.Statement.{statement}
 use Rattle.table.proofs.judge.Tie as tie
@@ -33,9 +35,6 @@ abbrev μ-loop : tie.MeasureT-loop
 
 loop-holds : tie.Need-loop-holds Inv-loop μ-loop
 loop-holds c = (search needs, c .count .ensures .0, search needs, passed-none, named-none _ _, c .before .before .pre .1)
-
-subst₂ : (P : ℕ → ℕ → Type 0) {x x′ y y′ : ℕ} → x ≡ x′ → y ≡ y′ → P x y → P x′ y′
-subst₂ P {x} {x′} {y} {y′} e f p = subst (λ (v : ℕ). P x′ v) f (subst (λ (v : ℕ). P v y) e p)
 
 module _ (c : tie.In-loop Inv-loop μ-loop) where
   abbrev start : tie.Start Inv-loop μ-loop
@@ -56,7 +55,8 @@ module _ (c : tie.In-loop Inv-loop μ-loop) where
 number-in-requires : tie.Need-number-in-requires Inv-loop μ-loop
 number-in-requires c κs =
     let d = c .before .before .before .before in
-    (slot-lies (image d) (d .before .loop .i) (omega (arith, small d, start d .pre .0 .long)), start d .pre .0 .few-rules, start d .pre .0 .few-cells)
+    let p = start d .pre .0 in
+    (slot-lies (image d) (d .before .loop .i) (omega (arith, small d, p .long)), p .few-rules, p .few-cells)
 
 -- the number that was given is the rule's, after the rules before it
 module _ (c : tie.After-number-in Inv-loop μ-loop) where
@@ -78,22 +78,25 @@ module _ (c : tie.After-number-in Inv-loop μ-loop) where
       ∙ ap (λ (b : Bool). numberWith n k b (ruleFrom s i))
       (t .taken .ensures
       ∙ ap₂ (takenIn (a .loop .names) i) (l .u64-at .ensures ∙ low-word s i) (h .u64-at2 .ensures ∙ high-word s i))
-      ∙ number-named n k (a .loop .names) (tableFrom s .rules) i (ruleFrom s i) (a .loop .inv .4) (from-bytes s (bytes turn) i) (from-long s i)
+      ∙ number-named n k (a .loop .names) (tableFrom s .rules) i (ruleFrom s i) (a .loop .inv .4) (from-bytes s (bytes turn) i)
+      (from-long s i)
 
   at-number : numberAt (tableFrom (image turn)) (turn .before .loop .i) ≡ c .number-in .result
   at-number =
       let s = image turn in
       let i = turn .before .loop .i in
+      let p = start turn .pre .0 in
       number-from s i (small turn)
-      ∙ ap₂ (λ (n k : ℕ). ruleNumber n k (tableFrom s .rules) i (ruleFrom s i)) (sym (start turn .pre .0 .rules)) (sym (start turn .pre .0 .cells))
+      ∙ ap₂ (λ (n k : ℕ). ruleNumber n k (tableFrom s .rules) i (ruleFrom s i)) (sym (p .rules)) (sym (p .cells))
       ∙ sym number
 
 returns : tie.Need-returns Inv-loop μ-loop
 unfolding tableFrom
 returns c =
     let w = c .before in
-    let d = turn w in (
-      sym (judged-here (tableFrom (image d)) (d .before .loop .i) (d .before .loop .inv .3) (w .number-in .result) (low d) (at-number w) (c .if1 .taken)),
+    let d = turn w in
+    let l = d .before .loop in (
+      sym (judged-here (tableFrom (image d)) (l .i) (l .inv .3) (w .number-in .result) (low d) (at-number w) (c .if1 .taken)),
       λ e. absurd (c .if1 .taken e),
     )
 

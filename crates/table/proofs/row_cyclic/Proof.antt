@@ -2,15 +2,15 @@
 use mathlib.Core.Path.{ap₂, _∙_}
 use mathlib.Core.Bool.{_&&_}
 use lib.Dec.{ltb}
-use Rattle.mask.specs.SearchLaws.{some-same, some-below}
+use Rattle.mask.proofs.SearchLaws.{some-same, some-below}
 use Rattle.mask.specs.Mask.{has, meet}
-use Rattle.graph.specs.Graph.{leads}
+use Rattle.graph.specs.Graph.{leads, cyclic}
 use borrow.Author.Needs.{needs}
 use Rattle.table.proofs.row_cyclic.Statement.{statement}
 use Rattle.table.proofs.row_cyclic.Tie as tie
 
 returns : tie.Need-returns
-unfolding meet
+unfolding meet cyclic
 returns c =
     let z = c .before .before .before .before in
     let on = c .before .before .loops .result in

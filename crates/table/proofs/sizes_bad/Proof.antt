@@ -1,3 +1,4 @@
+-- The three tests are the definition's own.
 use mathlib.Core.Path.{refl}
 use Rattle.table.specs.Check.{sizesBad}
 use Rattle.table.proofs.sizes_bad.Statement.{statement}

@@ -2,8 +2,7 @@
 use mathlib.Core.Path.{refl, _∙_}
 use native.Mathlib.Omega.{arith}
 use Rattle.rule.specs.declared.Rule.{Rule}
-use Rattle.table.specs.ImageLaws.{column-is}
-use borrow.Author.Needs.{needs}
+use Rattle.table.proofs.ImageLaws.{column-is}
 use Rattle.table.proofs.watches.Statement.{statement}
 use Rattle.table.proofs.watches.Tie as tie
 

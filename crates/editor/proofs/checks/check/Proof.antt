@@ -6,8 +6,9 @@ use native.Mathlib.Omega.{arith}
 use lib.Dec.{ltb}
 use borrow.Author.Needs.{needs}
 use borrow.Author.Tests.{lt-ltb, le-ltb}
-use Rattle.pairs.specs.declared.Masks.{Masks}
-use Rattle.editor.specs.Rows.{firstBeyond, cyclic, checkRows, preceding}
+use Rattle.analysis_pairs.specs.declared.Masks.{Masks}
+use Rattle.editor.specs.Rows.{firstBeyond, checkRows}
+use Rattle.editor.specs.EditorInner.{onlyPrecedes}
 use Rattle.editor.proofs.checks.check.Statement.{statement}
 use Rattle.editor.proofs.checks.check.Tie as tie
 
@@ -17,7 +18,7 @@ returns c = record { is = rw (lt-ltb 32 _ (c .if1 .taken)); named = λ e. absurd
 
 -- the row that is lent
 abbrev row : tie.Start → Masks
-row s = preceding (s .args .n) (s .args .precedes .now)
+row s = onlyPrecedes (s .args .n) (s .args .precedes .now)
 
 -- the records are not too many
 few : (c : tie.Else1) → ltb 32 (c .before .args .n) ≡ false
@@ -39,7 +40,7 @@ inside c =
     ap (λ (x : ℕ). ltb x (c .before .before .before .args .n)) (sym (c .before .first-beyond .ensures .is)) ∙ le-ltb _ _ (c .if2 .left)
 
 returns-3 : tie.Need-returns-3
-unfolding checkRows cyclic
+unfolding checkRows
 returns-3 c =
     let i = c .before .before .before in
     record {
@@ -48,7 +49,7 @@ returns-3 c =
     }
 
 returns-4 : tie.Need-returns-4
-unfolding checkRows cyclic
+unfolding checkRows
 returns-4 c =
     let i = c .before .before .before in
     record {

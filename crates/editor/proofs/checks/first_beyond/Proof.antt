@@ -8,8 +8,8 @@ use lib.ListN.{getD}
 use borrow.Author.Needs.{needs}
 use borrow.Author.Count.{below-more}
 use Rattle.mask.specs.Mask.{beyond}
-use Rattle.mask.specs.MaskLaws.{not-beyond}
-use Rattle.mask.specs.Loops.{Passed, passed-none, passed-more, passed-here, passed-all}
+use Rattle.mask.proofs.MaskLaws.{not-beyond}
+use Rattle.mask.proofs.LoopsLaws.{Passed, passed-none, passed-more, passed-here, passed-all}
 use Rattle.editor.specs.Rows.{firstBeyond}
 use Rattle.editor.proofs.checks.first_beyond.Statement.{statement}
 use Rattle.editor.proofs.checks.first_beyond.Tie as tie

@@ -3,7 +3,7 @@ use mathlib.Core.Path.{ap, _∙_}
 use mathlib.Core.Bool.{Bool, _&&_, not}
 use borrow.Author.Needs.{needs}
 use Rattle.mask.specs.Mask.{has}
-use Rattle.mask.specs.MaskLaws.{has-minus}
+use Rattle.mask.proofs.MaskLaws.{has-minus}
 use Rattle.machine.proofs.running.eligible.Statement.{statement}
 use Rattle.machine.proofs.running.eligible.Tie as tie
 

@@ -6,28 +6,30 @@ use Prim.Native.Nat.{ℕ, _≤_, _<_, _+_, _-_}
 use native.Mathlib.Omega.{arith}
 use lib.ListN.{getD}
 use borrow.Author.Needs.{needs}
-use Rattle.mask.specs.SearchLaws.{some-same, least-same}
-use Rattle.mask.specs.Mask.{has, lowest}
+use Rattle.mask.proofs.SearchLaws.{some-same, least-same}
+use Rattle.mask.specs.Mask.{has}
+use Rattle.mask.specs.MaskInner.{lowest}
 use Rattle.table.specs.Table.{goesBefore}
-use Rattle.table.specs.Memory.{ruleFrom, tableFrom}
-use Rattle.steps.specs.declared.State.{State}
-use Rattle.steps.specs.State.{Fits, waits, held, eligible, lowestOf}
-use Rattle.steps.specs.StateLaws.{fits-range}
-use Rattle.steps.specs.Run.{ran, next}
-use Rattle.steps.specs.Step.{effect}
-use Rattle.steps.specs.EffectLaws.{effect-fits}
-use Rattle.steps.specs.RunLaws.{Stands, stands-start, stands-turn, stands-done, stands-spent}
-use Rattle.steps.specs.EligibleLaws.{lowest-below}
-use Rattle.machine_step.specs.Turn.{stateOf, effectBy}
-use Rattle.machine_step.specs.TurnLaws.{slot-at, below-32, turn-is}
-use Rattle.machine.specs.Lent.{Lent}
+use Rattle.table.specs.Memory.{tableFrom}
+use Rattle.table.specs.TableInner.{ruleFrom}
+use Rattle.machine_spec.specs.declared.State.{State}
+use Rattle.machine_spec.specs.State.{Fits, waits, heldBack, eligible, lowestOf}
+use Rattle.machine_spec.proofs.StateLaws.{fits-range}
+use Rattle.machine_spec.specs.Run.{ran}
+use Rattle.machine_spec.specs.Step.{effect}
+use Rattle.machine_spec.proofs.EffectLaws.{effect-fits}
+use Rattle.machine_spec.proofs.RunLaws.{next, StandsAt, stands-start, stands-turn, stands-done, stands-spent}
+use Rattle.machine_spec.proofs.EligibleLaws.{lowest-below}
+use Rattle.machine_step.specs.MachineStepInner.{stateOf, effectBy}
+use Rattle.machine_step.proofs.TurnLaws.{slot-at, below-32, turn-is}
+use Rattle.machine.specs.MachineInner.{Lent}
 use Rattle.machine.proofs.running.runs.Statement.{statement}
 use Rattle.machine.proofs.running.runs.Tie as tie
 
 abbrev Inv-loop : tie.InvT-loop
 Inv-loop table row rows budget cells₀ m₀ steps₀ cells m steps =
     (steps ≤ budget) × Fits (tableFrom table) (stateOf cells m)
-    × Stands (tableFrom table) (stateOf cells₀ m₀) budget (stateOf cells m) steps
+    × StandsAt (tableFrom table) (stateOf cells₀ m₀) budget (stateOf cells m) steps
 
 abbrev μ-loop : tie.MeasureT-loop
 μ-loop table row rows budget cells₀ m₀ steps₀ cells m steps = budget - steps
@@ -65,7 +67,7 @@ module _ (c : tie.After-lowest Inv-loop μ-loop) where
   fits = c .before .before .before .before .before .loop .inv .1
 
   taken : c .lowest .result ≡ lowestOf (tableFrom image) state
-  unfolding lowest held
+  unfolding lowest heldBack
   taken =
       c .lowest .ensures
       ∙ least-same 32 (has (c .before .eligible .result)) (eligible (tableFrom image) state)
@@ -106,7 +108,7 @@ loop-again c =
     ∙ ap (effect t (state d)) (taken d) in (
       search needs,
       subst (Fits t) (sym e) (effect-fits t (state d) (lowestOf t (state d)) (h .sound) (fits d) (low d)),
-      subst (λ (s : State). Stands t (a .s) (a .budget) s (l .steps + 1)) (sym e)
+      subst (λ (s : State). StandsAt t (a .s) (a .budget) s (l .steps + 1)) (sym e)
           (stands-turn t (a .s) (a .budget) (state d) (l .steps) (omega arith) (d .before .before .before .if1 .taken) (l .inv .2)),
     )
 

@@ -1,0 +1,10 @@
+-- Laws that `analysis_masks` stands on and passes on to other crates.
+pub mod AlikeLaws
+pub mod BoundLaws
+pub mod ClearedLaws
+pub mod CountsLaws
+pub mod IndexLaws
+pub mod MarkingLaws
+pub mod ReportLaws
+pub mod ReportingLaws
+pub mod SidesLaws

@@ -1,0 +1,6 @@
+-- What the contracts of `bytes` cite.
+pub mod Bytes
+pub mod EachByte
+pub mod Joined
+pub mod Little
+pub mod Put

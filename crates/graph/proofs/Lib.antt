@@ -1,0 +1,3 @@
+-- Laws that `graph` stands on and passes on to other crates.
+pub mod GraphLaws
+pub mod HaltsLaws

@@ -1,0 +1,2 @@
+-- Laws that `gwaunidor_book` passes on to readers.
+pub mod RefusedReadLaws

@@ -1,0 +1,2 @@
+-- What the contracts of `gwaunidor_book` cite.
+pub mod BookOut

@@ -1,0 +1,3 @@
+-- Laws that `gwaunidor_report` passes on to readers.
+pub mod CrossesLaws
+pub mod RefusedReportLaws

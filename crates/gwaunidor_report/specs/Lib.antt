@@ -1,0 +1,2 @@
+-- What the contracts of `gwaunidor_report` cite.
+pub mod ReportOut

@@ -1,0 +1,2 @@
+-- Laws that `gwaunidor_run` passes on to readers.
+pub mod UntouchedLaws

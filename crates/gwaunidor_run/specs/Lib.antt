@@ -1,0 +1,2 @@
+-- What the contracts of `gwaunidor_run` cite.
+pub mod RunOut

@@ -1,0 +1,2 @@
+-- What the contracts of `layout_code` cite.
+pub mod Code

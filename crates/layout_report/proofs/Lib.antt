@@ -1,0 +1,2 @@
+-- Laws that `layout_report` stands on and passes on to other crates.
+pub mod LayoutLaws

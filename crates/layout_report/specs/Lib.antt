@@ -1,0 +1,2 @@
+-- What the contracts of `layout_report` cite.
+pub mod Layout

@@ -1,0 +1,2 @@
+-- What the contracts of `layout_state` cite.
+pub mod States

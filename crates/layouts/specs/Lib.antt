@@ -1,3 +1,0 @@
--- What the contracts of `layouts` cite: `Layout` is the definition, `LayoutLaws` how much it is and what a refused report leaves.
-pub mod Layout
-pub mod LayoutLaws

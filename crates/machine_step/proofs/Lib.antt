@@ -1,0 +1,2 @@
+-- Laws that `machine_step` stands on and passes on to other crates.
+pub mod TurnLaws

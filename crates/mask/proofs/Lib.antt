@@ -1,0 +1,7 @@
+-- Laws that `mask` stands on and passes on to other crates.
+pub mod BitsLaws
+pub mod LoopsLaws
+pub mod MaskBelowLaws
+pub mod MaskLaws
+pub mod SearchLaws
+pub mod FirstLaws

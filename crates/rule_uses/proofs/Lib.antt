@@ -1,0 +1,2 @@
+-- Laws that `rule_uses` stands on and passes on to other crates.
+pub mod UsesLaws

@@ -1,0 +1,3 @@
+-- What the contracts of `rule_write` cite.
+pub mod HeldRule
+pub mod Pieces
