@@ -4,5 +4,4 @@ pub mod DaysLaws
 pub mod DemandLaws
 pub mod MachineLaws
 pub mod NightEndsLaws
-pub mod NightStepsLaws
 pub mod OwnOrderLaws

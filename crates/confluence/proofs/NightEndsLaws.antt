@@ -30,7 +30,7 @@ use Rattle.machine_spec.specs.Step.{stepOf, moved}
 use Rattle.machine_spec.proofs.StepLaws.{Stepping, step-done}
 use Rattle.confluence.specs.Demand.{after, Permitted, Still, Precedes32, OneEnd}
 use Rattle.confluence.proofs.DemandLaws.{demand-3, cleared-of}
-use Rattle.confluence.proofs.NightStepsLaws.{nightTable, nightState, nightEvening, twins, twinsPosted, other, facts}
+use Rattle.machine_spec.proofs.NightStepsLaws.{nightTable, nightState, nightEvening, twins, twinsPosted, other, facts}
 
 -- ---- a done step in an order
 

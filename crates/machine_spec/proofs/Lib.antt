@@ -4,6 +4,7 @@ pub mod EffectLaws
 pub mod EligibleLaws
 pub mod HeldBackLaws
 pub mod KeptLaws
+pub mod NightStepsLaws
 pub mod PostLaws
 pub mod RunLaws
 pub mod StateLaws
