@@ -20,12 +20,11 @@ use Rattle.rule.proofs.FillLaws.{filled-more, getD-left, length-filled}
 use Rattle.rule.specs.RuleInner.{Counted}
 use Rattle.rule.proofs.NumbersLaws.{counted}
 use Rattle.table.specs.Table.{Table, ruleAt, precedesOf}
-use Rattle.table.specs.TableInner.{watchesOf}
+use Rattle.table.specs.TableInner.{watchesOf, slotStart, ruleFrom}
 use Rattle.table.specs.Check.{Sound}
 use Rattle.table.proofs.SoundLaws.{parts}
 use Rattle.table.proofs.BeforeLaws.{precedes-rows}
 use Rattle.table.specs.Memory.{tableFrom}
-use Rattle.table.specs.TableInner.{slotStart, ruleFrom}
 use Rattle.table.proofs.ImageLaws.{rule-from}
 use Rattle.analysis_pairs.specs.AnalysisPairsInner.{masksIn, triggering}
 use Rattle.analysis_masks.specs.AnalysisMasksInner.{Past, Orderly}

@@ -4,7 +4,8 @@ ghost use lib.ListN.{length};
 ghost use Rattle.table.specs.Check.{Sound};
 ghost use Rattle.table.specs.Memory.{tableFrom};
 ghost use Rattle.analysis_masks.specs.Report.{Reported};
-ghost use Rattle.analysis_masks.specs.AnalysisMasksInner.{reportIn, noMarks};
+ghost use Rattle.analysis_masks.specs.AnalysisMasksInner.{reportIn};
+ghost use Rattle.analysis_marks.specs.AnalysisMarksInner.{noMarks};
 ghost use Rattle.analysis_masks.specs.Bound.{Bounded};
 ghost use Rattle.analysis.specs.TableMasks.{masksOf};
 ghost use Rattle.analysis.specs.AnalysisInner.{SoundBytes};
@@ -43,10 +44,10 @@ fn judged(s: &[u8], marks: &mut [u8; 496]) -> Summary
     ensures { λ v. ⌜ Reported (masksOf (tableFrom (now (s .entry)))) (reportIn v (now (marks .exit))) ⌝ }
 {
     let n = rule::count(s[1]);
-    let watch = table::watches(s, n);
+    let watch = table_rows::watches(s, n);
     let read = reads(s, n);
     let written = writes(s, n);
-    let precedes = table::precedes(s, n);
+    let precedes = table_rows::precedes(s, n);
     analysis_masks::rows::judged(n, &watch, &read, &written, &precedes, marks)
 }
 
@@ -56,7 +57,7 @@ fn bounded(s: &[u8], set: u32) -> Bound
     ensures { λ b. ⌜ Bounded (masksOf (tableFrom (now (s .entry)))) set b ⌝ }
 {
     let n = rule::count(s[1]);
-    let watch = table::watches(s, n);
+    let watch = table_rows::watches(s, n);
     let written = writes(s, n);
     analysis_masks::rows::bound(n, &watch, &written, set)
 }

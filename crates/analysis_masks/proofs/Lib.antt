@@ -2,9 +2,6 @@
 pub mod AlikeLaws
 pub mod BoundLaws
 pub mod ClearedLaws
-pub mod CountsLaws
-pub mod IndexLaws
-pub mod MarkingLaws
 pub mod ReportLaws
 pub mod ReportingLaws
 pub mod SidesLaws

@@ -20,9 +20,10 @@ use Rattle.analysis_pairs.specs.Rules.{Rules, Unordered}
 use Rattle.analysis_pairs.specs.RuleMasks.{rulesOf}
 use Rattle.analysis_pairs.proofs.RulesLaws.{Alike, passes-alike, turned, culprits-unique}
 use Rattle.analysis_masks.specs.declared.Report.{Report}
-use Rattle.analysis_masks.specs.Index.{index}
-use Rattle.analysis_masks.proofs.IndexLaws.{PairAt, pair-at, index-inj}
-use Rattle.analysis_masks.specs.Report.{Marked, absent, ordered, passes, fails, failsAt, First, FirstOf, Reported}
+use Rattle.analysis_marks.specs.Index.{index}
+use Rattle.analysis_marks.proofs.IndexLaws.{PairAt, pair-at, index-inj}
+use Rattle.analysis_marks.specs.Marks.{Marked, absent, ordered, passes, fails, failsAt, First, FirstOf}
+use Rattle.analysis_masks.specs.Report.{Reported}
 
 -- ---- marks
 

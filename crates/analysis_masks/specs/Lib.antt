@@ -2,5 +2,4 @@
 pub mod AnalysisMasksInner
 pub mod Bound
 pub mod Cleared
-pub mod Index
 pub mod Report

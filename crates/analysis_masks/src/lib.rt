@@ -2,7 +2,6 @@
 ghost use mathlib.Core.Path.{_≡_};
 ghost use Rattle.analysis_masks.specs.AnalysisMasksInner.{reportIn};
 
-mod marks;
 pub mod rows;
 
 // Number 0 and place 255 say that it is done. A mark is 0 for a pair that is ordered or absent, 1 for one that passes,

@@ -1,13 +1,13 @@
 // The report and the step bound of rules that are given by rows of masks.
 use crate::Bound;
 use crate::Summary;
-use crate::marks;
 ghost use mathlib.Core.Path.{_≡_};
 ghost use Prim.Native.Nat.{ℕ, _≤_};
 ghost use Rattle.mask.specs.Mask.{has};
 ghost use Rattle.graph.specs.Graph.{leads};
 ghost use Rattle.analysis_pairs.specs.AnalysisPairsInner.{masksIn, triggering};
-ghost use Rattle.analysis_masks.specs.AnalysisMasksInner.{Orderly, reportIn, noMarks};
+ghost use Rattle.analysis_masks.specs.AnalysisMasksInner.{Orderly, reportIn};
+ghost use Rattle.analysis_marks.specs.AnalysisMarksInner.{noMarks};
 ghost use Rattle.analysis_masks.specs.Report.{Reported};
 ghost use Rattle.analysis_masks.specs.Bound.{Bounded};
 
@@ -38,9 +38,9 @@ pub fn judged(
     let before = graph::closure(rows, n);
     let ahead = analysis_pairs::turned(&before, n);
     let faulty = at_fault(&trig, n);
-    marks::filled(&trig, &ahead, &clash, n, marks);
-    let c = marks::failing(marks);
-    let f = marks::first_failing(&trig, &ahead, &clash, marks);
+    analysis_marks::filled(&trig, &ahead, &clash, n, marks);
+    let c = analysis_marks::failing(marks);
+    let f = analysis_marks::first_failing(&trig, &ahead, &clash, marks);
     Summary {
         cleared: (faulty == 0) & (c == 0),
         faulty: faulty,

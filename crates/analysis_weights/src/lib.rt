@@ -3,8 +3,7 @@ ghost use mathlib.Core.Path.{_≡_};
 ghost use Prim.Native.Nat.{_^_, _<_, _≤_};
 ghost use Rattle.graph.specs.GraphInner.{Rows};
 ghost use Rattle.analysis_weights.specs.Weight.{total};
-ghost use Rattle.analysis_weights.specs.AnalysisWeightsInner.{sumBelow, weightIn, Weights};
-ghost use Rattle.analysis_weights.specs.AnalysisWeightsInner.{ReadyRule, Weighable, Weighed};
+ghost use Rattle.analysis_weights.specs.AnalysisWeightsInner.{sumBelow, weightIn, Weights, ReadyRule, Weighable, Weighed};
 
 // The sum of w over the members of m: the step bound of the set, where w are the weights.
 pub fn total(w: &[u32; 32], m: u32) -> u32

@@ -1,6 +1,2 @@
--- Laws that `book_read` stands on and passes on to other crates.
-pub mod AnswerLaws
-pub mod InsideLaws
-pub mod JudgeLaws
-pub mod ReadLaws
+-- Laws that `book_read` stands on.
 pub mod SpreadLaws

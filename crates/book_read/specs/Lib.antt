@@ -1,4 +1,2 @@
--- What the contracts of `book_read` cite; `BookReadInner` is for inner functions alone.
-pub mod BookReadInner
-pub mod Read
+-- What the contracts of `book_read` cite.
 pub mod Spread

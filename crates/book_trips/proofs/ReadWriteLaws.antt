@@ -24,13 +24,14 @@ use Rattle.rule_write.proofs.WriteBackLaws.{rule-stands}
 use Rattle.table.proofs.SoundLaws.{parts}
 use Rattle.table.specs.BodyStarts.{bodySize, startAt}
 use Rattle.table.proofs.BodyStartsLaws.{starts-same}
-use Rattle.book_read.specs.Read.{startOf, lengthOf, tableIn, readOf}
-use Rattle.book_read.proofs.InsideLaws.{Fitting, fitting, inside, Counts, counts, room}
-use Rattle.book_read.proofs.ReadLaws.{Taken, read-done}
-use Rattle.book_read.specs.BookReadInner.{nOf, kOf, bodyIn}
+use Rattle.book_judge.specs.Read.{startOf, lengthOf, tableIn, readOf}
+use Rattle.book_judge.proofs.InsideLaws.{Fitting, fitting, inside, Counts, counts, room}
+use Rattle.book_judge.proofs.ReadLaws.{Taken, read-done}
+use Rattle.book_judge.specs.BookJudgeInner.{nOf, kOf, bodyIn}
 use Rattle.book_write.specs.Book.{bookOf}
-use Rattle.book_write.specs.BookWriteInner.{sizesOf, entryBytes, contentsBytes, bodiesBytes}
-use Rattle.book_write.proofs.BookLaws.{length-contents, length-bodies, length-book}
+use Rattle.book_parts.specs.BookPartsInner.{sizesOf, entryBytes, contentsBytes, bodiesBytes}
+use Rattle.book_parts.proofs.PartsLaws.{length-contents, length-bodies}
+use Rattle.book_write.proofs.BookLaws.{length-book}
 
 module _ (s : List ℕ) (b : Bytes s) (done : readOf s .number ≡ 0) where
   abbrev n : ℕ

@@ -32,12 +32,13 @@ use Rattle.table.specs.Check.{sizesBad, numberAt, Sound}
 use Rattle.table.proofs.SoundLaws.{Parts, parts, sizes-good}
 use Rattle.table.specs.BodyStarts.{startAt}
 use Rattle.table.proofs.BodyStartsLaws.{starts-same}
-use Rattle.book_read.specs.Read.{startOf, lengthOf, ruleIn, tableIn, numberIn, firstIn, taken}
-use Rattle.book_read.specs.Read.{lengthBad, headBad, contentsBad, readAnswers, readOf}
-use Rattle.book_read.specs.BookReadInner.{nOf, kOf}
+use Rattle.book_judge.specs.Read.{startOf, lengthOf, ruleIn, tableIn, numberIn, firstIn, taken}
+use Rattle.book_judge.specs.Read.{lengthBad, headBad, contentsBad, readAnswers, readOf}
+use Rattle.book_judge.specs.BookJudgeInner.{nOf, kOf}
 use Rattle.book_write.specs.Book.{bookOf}
-use Rattle.book_write.specs.BookWriteInner.{Ready, sizesOf, entryBytes, contentsBytes, bodiesBytes}
-use Rattle.book_write.proofs.BookLaws.{ready, size-most, start-most, largest, length-contents, length-bodies, length-book}
+use Rattle.book_parts.specs.BookPartsInner.{Ready, sizesOf, entryBytes, contentsBytes, bodiesBytes}
+use Rattle.book_parts.proofs.PartsLaws.{ready, size-most, start-most, length-contents, length-bodies}
+use Rattle.book_write.proofs.BookLaws.{largest, length-book}
 use Rattle.rule_write.proofs.SlotsLaws.{past, empty-rule}
 
 module _ (t : Table) (sound : Sound t) (held : HeldTable t) where

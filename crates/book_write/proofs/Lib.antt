@@ -1,4 +1,3 @@
 -- Laws that `book_write` stands on and passes on to other crates.
-pub mod BodyWriteLaws
 pub mod BookLaws
 pub mod WriteLaws

@@ -15,8 +15,9 @@ use Rattle.table.specs.Check.{checkOf}
 use Rattle.table.proofs.SoundLaws.{sound-by}
 use Rattle.book_write.specs.declared.Written.{Written}
 use Rattle.book_write.specs.Book.{bookOf}
-use Rattle.book_write.specs.BookWriteInner.{contentsBytes, bodiesBytes}
-use Rattle.book_write.proofs.BookLaws.{length-contents, largest}
+use Rattle.book_parts.specs.BookPartsInner.{contentsBytes, bodiesBytes}
+use Rattle.book_parts.proofs.PartsLaws.{length-contents}
+use Rattle.book_write.proofs.BookLaws.{largest}
 use Rattle.book_write.specs.Write.{written, writeOf, sizeOf}
 
 module _ (t : Table) where

@@ -1,4 +1,3 @@
--- What the contracts of `book_write` cite; `BookWriteInner` is for inner functions alone.
+-- What the contracts of `book_write` cite.
 pub mod Book
-pub mod BookWriteInner
 pub mod Write

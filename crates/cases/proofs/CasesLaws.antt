@@ -10,14 +10,16 @@ use Rattle.rule.specs.Uses as Uses
 use Rattle.table.specs.Table as Table
 use Rattle.table.specs.Check as Check
 use Rattle.table.specs.BodyStarts as BodyStarts
-use Rattle.book_read.specs.Read as Read
+use Rattle.book_judge.specs.Read as Read
+use Rattle.rule_sums.specs.Sums as Sums
 use Rattle.rule_act.specs.Amounts as Amounts
 use Rattle.machine_spec.specs.State as Fit
 use Rattle.machine_spec.specs.Step as Step
 use Rattle.analysis_weights.specs.Weight as Weight
 use Rattle.analysis_pairs.specs.RuleMasks as Masks
 use Rattle.cases.proofs.WrittenLaws as Written
-use Rattle.report_lines.specs.Text as Text
+use Rattle.report_text.specs.Text as Text
+use Rattle.report_lines.specs.FourLines as FourLines
 use Rattle.cases.specs.Books.{empty, tax, circle, unordered, ordered, night}
 use Rattle.cases.specs.Case.{Every}
 use Rattle.cases.proofs.ToldLaws.{refused, bound, lines, endless-lines}
@@ -33,12 +35,12 @@ unfolding Search.some Search.least Mask.has Mask.meet Mask.beyond Mask.maskOf Gr
     Numbers.cellsBad Numbers.formsBad Numbers.twice Numbers.lettersBad Numbers.sameName Numbers.nameTaken
     Numbers.ruleNumber Numbers.ruleSlotBad Uses.reads Uses.writes Table.goesBefore Check.sizesBad Check.numberAt
     Check.firstBad Check.firstSlot Graph.cyclic Check.checkOf BodyStarts.startAt Read.contentsBad Read.tableIn Read.numberIn
-    Read.firstIn Read.readOf Amounts.compares Amounts.holds Amounts.anyFalse Amounts.scaled
-    Amounts.operated Amounts.valueOf Amounts.anyOut Amounts.storedBy Fit.stateBad Fit.heldBack Step.rested Step.marked
+    Read.firstIn Read.readOf Sums.compares Sums.holds Amounts.anyFalse Sums.scaled
+    Sums.operated Sums.valueOf Amounts.anyOut Amounts.storedBy Fit.stateBad Fit.heldBack Step.rested Step.marked
     Step.wakes Step.storedAndWoken Step.effect Step.answered Step.stepNumbers Step.stepOf Step.postNumbers Step.postOf
     Weight.weightOf Weight.total Masks.commute Masks.mayTrigger Masks.writesInto Written.withZeros Text.digitsTo
-    Text.spaced Text.line Text.members Text.endsLine Text.pairsLine Text.clearedLine
-    Text.fourLines
+    Text.spaced Text.line Text.members FourLines.endsLine FourLines.pairsLine FourLines.clearedLine
+    FourLines.fourLines
 all-hold =
     (refl, refl, refl, refl)
     and lines empty emptySheet _ (sheets .empty) refl 0 0 refl refl refl

@@ -16,8 +16,8 @@ use Rattle.analysis_pairs.specs.AnalysisPairsInner.{clashes, edge}
 use Rattle.analysis_pairs.proofs.SettleLaws.{settle}
 use Rattle.analysis_pairs.proofs.VerdictLaws.{guilty}
 use Rattle.analysis_masks.specs.declared.Report.{Report}
-use Rattle.analysis_masks.specs.AnalysisMasksInner.{Graphs}
-use Rattle.analysis_masks.specs.Report.{failsAt}
+use Rattle.analysis_marks.specs.AnalysisMarksInner.{Graphs}
+use Rattle.analysis_marks.specs.Marks.{failsAt}
 use Rattle.analysis_masks.proofs.AlikeLaws.{befores}
 
 unfoldable pub graphsOf : Masks → Graphs

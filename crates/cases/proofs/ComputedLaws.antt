@@ -26,14 +26,17 @@ use Rattle.analysis_pairs.specs.RuleMasks.{triggers}
 use Rattle.analysis_pairs.proofs.SettleLaws.{settle, Settled, settled}
 use Rattle.analysis_pairs.proofs.VerdictLaws.{guilty, judged-passing, judged-failing}
 use Rattle.analysis_masks.specs.declared.Report.{Report}
-use Rattle.analysis_masks.specs.AnalysisMasksInner.{Graphs, Orderly, graphRules, Marks}
-use Rattle.analysis_masks.specs.Index.{start, index}
-use Rattle.analysis_masks.proofs.IndexLaws.{start-next, row-low, index-lt, index-inj}
-use Rattle.analysis_masks.specs.Report.{Marked, absent, ordered, passes, fails, failsAt, FirstOf, Reported}
+use Rattle.analysis_marks.specs.AnalysisMarksInner.{Graphs, graphRules, Marks}
+use Rattle.analysis_masks.specs.AnalysisMasksInner.{Orderly}
+use Rattle.analysis_marks.specs.Index.{start, index}
+use Rattle.analysis_marks.proofs.IndexLaws.{start-next, row-low, index-lt, index-inj}
+use Rattle.analysis_marks.specs.Marks.{Marked, absent, ordered, passes, fails, failsAt, FirstOf}
+use Rattle.analysis_masks.specs.Report.{Reported}
 use Rattle.analysis_masks.proofs.ReportLaws.{unique}
-use Rattle.analysis_masks.proofs.MarkingLaws.{Drawn}
+use Rattle.analysis_marks.proofs.MarkingLaws.{Drawn}
 use Rattle.analysis_masks.proofs.AlikeLaws.{alike-rows, triggers-rows}
-use Rattle.analysis_masks.proofs.ReportingLaws.{faulty-iff, marks-of, cleared-iff, marks-twos, first-none, first-some, first-alike}
+use Rattle.analysis_masks.proofs.ReportingLaws.{faulty-iff, marks-of, cleared-iff}
+use Rattle.analysis_marks.proofs.MarkedLaws.{marks-twos, first-none, first-some, first-alike}
 use Rattle.cases.proofs.ComputeLaws.{verdict, graphsOf, markOf, locate, marksOf, firstFailing, reportBy, reportOf}
 
 -- ---- a pair

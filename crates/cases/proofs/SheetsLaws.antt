@@ -12,12 +12,12 @@ use Rattle.rule.specs.Uses as Uses
 use Rattle.table.specs.Table as Table
 use Rattle.table.specs.Check as Check
 use Rattle.table.specs.BodyStarts as BodyStarts
-use Rattle.book_read.specs.Read as Read
+use Rattle.book_judge.specs.Read as Read
 use Rattle.analysis_pairs.specs.RuleMasks as Masks
 use Rattle.analysis_pairs.specs.AnalysisPairsInner as Growing
 use Rattle.analysis_pairs.proofs.SettleLaws as Settle
 use Rattle.analysis_pairs.proofs.VerdictLaws as Verdict
-use Rattle.analysis_masks.specs.Index as Index
+use Rattle.analysis_marks.specs.Index as Index
 use Rattle.cases.proofs.ComputeLaws as Compute
 use Rattle.cases.proofs.WrittenLaws as Written
 use Rattle.cases.specs.Books as Books

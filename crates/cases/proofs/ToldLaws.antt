@@ -10,7 +10,7 @@ use Rattle.analysis_weights.specs.Weight.{total, weightOf}
 use Rattle.analysis_pairs.specs.declared.Masks.{Masks}
 use Rattle.table.specs.Table.{Table}
 use Rattle.table.specs.Check.{checkOf}
-use Rattle.book_read.specs.Read.{readOf}
+use Rattle.book_judge.specs.Read.{readOf}
 use Rattle.analysis_masks.specs.declared.Report.{Report}
 use Rattle.analysis_masks.specs.declared.Bound.{Bound}
 use Rattle.analysis_masks.specs.Report.{Reported}
@@ -19,7 +19,7 @@ use Rattle.cases.proofs.ComputeLaws.{reportBy}
 use Rattle.cases.proofs.WrittenLaws.{withZeros, graphs}
 use Rattle.analysis.specs.TableMasks.{masksOf}
 use Rattle.analysis.specs.Says.{ReportSays, BoundSays}
-use Rattle.report_lines.specs.Text.{refusedLine, pairsLine, fourLines}
+use Rattle.report_lines.specs.FourLines.{refusedLine, pairsLine, fourLines}
 use Rattle.report_lines.specs.Lines.{FourLines, TextOf}
 use Rattle.cases.proofs.JudgedLaws.{Sheet, masks, tests, every, Findings, findings, report-says, bound-is, bound-refused}
 use Rattle.cases.specs.Case.{bookTable, bounds, Holds}

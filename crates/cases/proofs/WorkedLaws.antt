@@ -12,9 +12,10 @@ use Rattle.rule.specs.Numbers as Numbers
 use Rattle.table.specs.Table as Table
 use Rattle.table.specs.Check as Check
 use Rattle.table.specs.BodyStarts as BodyStarts
-use Rattle.book_read.specs.Read as Read
+use Rattle.book_judge.specs.Read as Read
+use Rattle.rule_sums.specs.Sums as Sums
 use Rattle.rule_act.specs.Amounts as Amounts
-use Rattle.rule_act.specs.Amounts.{scaled}
+use Rattle.rule_sums.specs.Sums.{scaled}
 use Rattle.machine_spec.specs.State as Fit
 use Rattle.machine_spec.specs.Step as Step
 use Rattle.machine_spec.specs.Step.{moved, stepOf}
@@ -61,8 +62,8 @@ pub worked : Worked
 unfolding Search.some Search.least Mask.has Mask.meet Mask.beyond Mask.maskOf Graph.leads Joined.joined Numbers.countsBad
     Numbers.cellsBad Numbers.formsBad Numbers.twice Numbers.lettersBad Numbers.sameName Numbers.nameTaken Numbers.ruleNumber
     Numbers.ruleSlotBad Table.goesBefore Check.sizesBad Check.numberAt Check.firstBad Check.firstSlot Graph.cyclic Check.checkOf
-    BodyStarts.startAt Read.contentsBad Read.tableIn Read.numberIn Read.firstIn Read.readOf Amounts.compares Amounts.holds
-    Amounts.anyFalse Amounts.scaled Amounts.operated Amounts.valueOf Amounts.anyOut Amounts.storedBy Fit.stateBad Fit.heldBack Step.rested
+    BodyStarts.startAt Read.contentsBad Read.tableIn Read.numberIn Read.firstIn Read.readOf Sums.compares Sums.holds
+    Amounts.anyFalse Sums.scaled Sums.operated Sums.valueOf Amounts.anyOut Amounts.storedBy Fit.stateBad Fit.heldBack Step.rested
     Step.marked Step.wakes Step.storedAndWoken Step.effect Step.answered Step.stepNumbers Step.stepOf Run.runs Run.runOf
 worked =
     record {

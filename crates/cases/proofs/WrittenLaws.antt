@@ -21,7 +21,8 @@ use Rattle.analysis_pairs.specs.declared.Masks.{Masks}
 use Rattle.analysis_pairs.specs.RuleMasks.{mayTrigger, commute, masksBy, triggers}
 use Rattle.analysis_pairs.specs.AnalysisPairsInner.{clashes, Among}
 use Rattle.analysis_pairs.proofs.RowsLaws.{Row, rows-only}
-use Rattle.analysis_masks.specs.AnalysisMasksInner.{Graphs, Past, Orderly}
+use Rattle.analysis_marks.specs.AnalysisMarksInner.{Graphs}
+use Rattle.analysis_masks.specs.AnalysisMasksInner.{Past, Orderly}
 use Rattle.analysis_masks.proofs.AlikeLaws.{befores, may-within, before-within, clash-within}
 use Rattle.cases.proofs.ComputeLaws.{graphsOf}
 

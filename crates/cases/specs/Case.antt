@@ -8,8 +8,8 @@ use Prim.Native.String.{String}
 use lib.IntN.{ℤ, pos}
 use lib.ListN.{length, replicate}
 use Rattle.table.specs.Table.{Table}
-use Rattle.book_read.specs.Read.{readOf}
-use Rattle.rule_act.specs.Amounts.{scaled}
+use Rattle.book_judge.specs.Read.{readOf}
+use Rattle.rule_sums.specs.Sums.{scaled}
 use Rattle.machine_spec.specs.declared.State.{State}
 use Rattle.machine_spec.specs.declared.Moved.{Moved}
 use Rattle.machine_spec.specs.State.{zeros}
@@ -18,7 +18,7 @@ use Rattle.analysis_pairs.specs.RuleMasks.{commute}
 use Rattle.analysis_masks.specs.declared.Bound.{Bound}
 use Rattle.analysis.specs.TableMasks.{masksOf}
 use Rattle.analysis.specs.Says.{BoundSays}
-use Rattle.report_lines.specs.Text.{letters}
+use Rattle.report_text.specs.Text.{letters}
 use Rattle.report_lines.specs.Lines.{TextOf}
 
 -- the amounts of the first cells, and 0 in the rest

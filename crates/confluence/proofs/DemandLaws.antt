@@ -27,7 +27,7 @@ use Rattle.analysis_masks.specs.Cleared.{Faulty, Cleared}
 use Rattle.analysis_masks.specs.Report.{Reported}
 use Rattle.analysis.specs.TableMasks.{masksOf}
 use Rattle.analysis.specs.Says.{ReportSays}
-use Rattle.rule_act.specs.Amounts.{at}
+use Rattle.rule_sums.specs.Sums.{at}
 use Rattle.machine_spec.specs.declared.State.{State}
 use Rattle.machine_spec.specs.declared.Moved.{Moved}
 use Rattle.machine_spec.specs.State.{Fits, waits}

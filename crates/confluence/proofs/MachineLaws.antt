@@ -20,11 +20,12 @@ use Rattle.table.specs.Table.{Table, ruleAt, goesBefore}
 use Rattle.table.specs.Check.{Sound}
 use Rattle.table.proofs.SoundLaws.{parts}
 use Rattle.table.proofs.BeforeLaws.{irreflexive, transitive}
-use Rattle.rule_act.specs.Amounts.{at, valueOf, differs as amounts-differ, stored as together}
+use Rattle.rule_sums.specs.Sums.{at, valueOf, differs as amounts-differ}
+use Rattle.rule_act.specs.Amounts.{stored as together}
 use Rattle.rule_act.specs.RuleActInner.{changes}
 use Rattle.rule_act.proofs.ActsLaws.{fires, overflows, acted, fires-local, overflows-local}
 use Rattle.rule_act.proofs.AmountsLaws.{Agree, stored-at, stored-else, value-same}
-use Rattle.rule_act.proofs.PenceLaws.{alike, same}
+use Rattle.rule_sums.proofs.PenceLaws.{alike, same}
 use Rattle.rule.proofs.CellsBelowLaws.{reads-below, targets-below}
 use Rattle.machine_spec.specs.declared.State.{State}
 use Rattle.machine_spec.specs.declared.Moved.{Moved}

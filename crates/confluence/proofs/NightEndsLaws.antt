@@ -22,7 +22,7 @@ use Rattle.analysis_masks.proofs.ClearedLaws.{no-priorities-commute}
 use Rattle.analysis.specs.TableMasks.{masksOf}
 use Rattle.analysis.proofs.SetsLaws.{commute-writes}
 use Rattle.analysis.specs.Says.{ReportSays}
-use Rattle.rule_act.specs.Amounts.{at}
+use Rattle.rule_sums.specs.Sums.{at}
 use Rattle.machine_spec.specs.declared.State.{State}
 use Rattle.machine_spec.specs.declared.Moved.{Moved}
 use Rattle.machine_spec.specs.State.{waits}

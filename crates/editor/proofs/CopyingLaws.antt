@@ -17,7 +17,8 @@ use Rattle.analysis_masks.specs.declared.Report.{Report}
 use Rattle.analysis.specs.Says.{refusedReport}
 use Rattle.analysis.proofs.TableMasksLaws.{filled-past}
 use Rattle.editor.specs.declared.Record.{Record}
-use Rattle.editor.specs.Rows.{noRecord, firstMasks, rowMasks, checkRows, RowsSay}
+use Rattle.editor.specs.Rows.{noRecord, firstMasks, rowMasks, RowsSay}
+use Rattle.editor_check.specs.RowNumbers.{checkRows}
 use Rattle.editor.specs.EditorInner.{RestZero, noRows, withRow}
 
 -- the first n records put in

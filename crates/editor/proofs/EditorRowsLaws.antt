@@ -18,8 +18,10 @@ use Rattle.analysis_pairs.specs.declared.Masks.{Masks}
 use Rattle.analysis_masks.specs.declared.Report.{Report}
 use Rattle.analysis_masks.specs.AnalysisMasksInner.{Orderly}
 use Rattle.analysis_masks.proofs.ReportLaws.{unique}
-use Rattle.editor.specs.EditorInner.{RestZero, RowChecked, onlyPrecedes}
-use Rattle.editor.specs.Rows.{firstBeyond, rowAnswers, checkRows, RowsSay}
+use Rattle.editor.specs.EditorInner.{RestZero}
+use Rattle.editor_check.specs.EditorCheckInner.{RowChecked, onlyPrecedes}
+use Rattle.editor_check.specs.RowNumbers.{firstBeyond, rowAnswers, checkRows}
+use Rattle.editor.specs.Rows.{RowsSay}
 
 -- the numbers ask for the precedes masks alone
 pub checked-in : (m : Masks) {a : Answer} → RowChecked (onlyPrecedes (m .n) (m .precedes)) a → RowChecked m a

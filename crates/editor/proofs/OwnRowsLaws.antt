@@ -24,7 +24,8 @@ use Rattle.analysis_masks.proofs.ReportLaws.{unique}
 use Rattle.analysis.specs.TableMasks.{masksOf}
 use Rattle.analysis.specs.Says.{ReportSays}
 use Rattle.editor.specs.declared.Record.{Record}
-use Rattle.editor.specs.Rows.{noRecord, rowMasks, firstBeyond, checkRows, RowsSay}
+use Rattle.editor.specs.Rows.{noRecord, rowMasks, RowsSay}
+use Rattle.editor_check.specs.RowNumbers.{firstBeyond, checkRows}
 use Rattle.editor.specs.OwnRows.{recordOf, rowsOf}
 
 module _ (t : Table) where

@@ -5,18 +5,19 @@ use Prim.Native.Nat.{ℕ, _+_, _*_, _/_}
 use native.Mathlib.Omega.{arith}
 use lib.ListN.{length, getD}
 use Rattle.bytes.specs.Little.{u32At}
+use Rattle.rule.specs.Fill.{filled}
 use Rattle.rule.proofs.FillLaws.{length-upto, getD-upto}
 use Rattle.analysis_pairs.specs.AnalysisPairsInner.{masksIn}
 use Rattle.rule_read.specs.RuleReadInner.{columnIn}
 use Rattle.rule_read.proofs.ColumnLaws.{column-same}
 use Rattle.editor.specs.declared.Record.{Record}
-use Rattle.editor.specs.Rows.{noRecord, row, firstMasks, rowMasks}
+use Rattle.editor.specs.Rows.{noRecord, firstMasks, rowMasks}
 use Rattle.editor.specs.RowsIn.{recordIn, rowsIn}
 
 -- ---- the masks that stand at one place of each record
 
 column-is : (s : List ℕ) (f : Record → ℕ) (at : ℕ) → ((i : ℕ) → u32At s (at + 16 * i) ≡ f (recordIn s i))
-    → columnIn s at 16 (length s / 16) ≡ row (rowsIn s) (length s / 16) f
+    → columnIn s at 16 (length s / 16) ≡ filled 32 0 (λ i. f (getD (rowsIn s) i noRecord)) (length s / 16)
 column-is s f at h =
     column-same s at 16 (length s / 16) (λ i. f (getD (rowsIn s) i noRecord))
     (λ i l. h i ∙ ap f (sym (getD-upto (length s / 16) (recordIn s) noRecord i l)))

@@ -4,9 +4,6 @@ ghost use Rattle.analysis_pairs.specs.AnalysisPairsInner.{masksIn};
 ghost use Rattle.editor.specs.Rows.{rowMasks, RowsSay};
 ghost use Rattle.editor.specs.EditorInner.{RestZero, noRows, withRow};
 ghost use Rattle.editor.specs.RowsIn.{rowsIn};
-
-mod checks;
-
 use analysis_masks::Report;
 use analysis_pairs::Masks;
 
@@ -60,7 +57,7 @@ fn judged(
     requires { ⌜ RestZero (masksIn n (now watch) (now reads) (now writes) (now precedes)) ⌝ }
     ensures { λ r. ⌜ RowsSay (masksIn n (now (watch .entry)) (now (reads .entry)) (now (writes .entry)) (now (precedes .entry))) r ⌝ }
 {
-    let a = checks::check(n, precedes);
+    let a = editor_check::check(n, precedes);
     if a.number != 0 {
         return analysis::no_report(a.number, a.place);
     }

@@ -49,7 +49,7 @@ fn due(table: &[u8; 9092], s: State, left: u32) -> u32
         return 32;
     }
     let waiting = s.waiting;
-    let rows = table::goes_before(table, rule::count(table[1]));
+    let rows = table_rows::goes_before(table, rule::count(table[1]));
     let behind = mask::gather(&rows, waiting);
     mask::lowest((waiting | behind) ^ behind) as u32
 }

@@ -2,7 +2,7 @@
 ghost use mathlib.Core.Path.{_≡_};
 ghost use Rattle.table.specs.Check.{checkOf};
 ghost use Rattle.table.specs.Memory.{tableFrom, tableBytes};
-ghost use Rattle.book_read.specs.Read.{readOf};
+ghost use Rattle.book_judge.specs.Read.{readOf};
 ghost use Rattle.machine_spec.specs.Step.{freshOf, stepOf, postOf};
 ghost use Rattle.machine_spec.specs.Run.{runOf};
 ghost use Rattle.layout_state.specs.States.{cellsFrom, stateFrom};

@@ -5,8 +5,8 @@ use Prim.Native.Nat.{ℕ}
 use lib.ListN.{replicate}
 use Rattle.table.specs.Memory.{tableBytes}
 use Rattle.table.proofs.ZerosLaws.{empty-zeros}
-use Rattle.book_read.specs.Read.{readOf}
-use Rattle.book_read.proofs.AnswerLaws.{refused-empty}
+use Rattle.book_judge.specs.Read.{readOf}
+use Rattle.book_judge.proofs.AnswerLaws.{refused-empty}
 
 pub read-zeros : (s : List ℕ) → (readOf s .number ≡ 0 → ⊥) → tableBytes (readOf s .table) ≡ replicate 9092 0
 read-zeros s h = ap tableBytes (refused-empty s h) ∙ empty-zeros

@@ -2,7 +2,7 @@
 ghost use mathlib.Core.Path.{_≡_};
 ghost use Rattle.table.specs.Check.{checkOf};
 ghost use Rattle.table.specs.Memory.{tableFrom, tableBytes};
-ghost use Rattle.book_read.specs.Read.{readOf};
+ghost use Rattle.book_judge.specs.Read.{readOf};
 ghost use Rattle.book_write.specs.Write.{writeOf, sizeOf};
 ghost use Rattle.layout_code.specs.Code.{codeOf};
 ghost use Rattle.gwaunidor_book.specs.BookOut.{sizeOut};

@@ -18,7 +18,7 @@ use Rattle.bytes.specs.Joined.{joined}
 use Rattle.bytes.proofs.JoinedLaws.{length-joined, stands-joined, stands-each}
 use Rattle.rule.proofs.FillLaws.{getD-filled}
 use Rattle.rule_write.proofs.RowsBytesLaws.{slots-are}
-use Rattle.rule_act.specs.Amounts.{at}
+use Rattle.rule_sums.specs.Sums.{at}
 use Rattle.machine_spec.specs.declared.State.{State}
 use Rattle.layout_state.specs.States.{cellsFrom, stateFrom, cellsBytes, stateBytes}
 

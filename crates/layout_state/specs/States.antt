@@ -6,7 +6,7 @@ use Rattle.bytes.specs.Little.{u32At, i64At}
 use Rattle.bytes.specs.Bytes.{u32Bytes, i64Bytes}
 use Rattle.bytes.specs.Joined.{joined}
 use Rattle.rule.specs.Fill.{filled}
-use Rattle.rule_act.specs.Amounts.{at}
+use Rattle.rule_sums.specs.Sums.{at}
 use Rattle.machine_spec.specs.declared.State.{State}
 
 -- the 32 amounts that the first 256 bytes hold

@@ -8,13 +8,10 @@ ghost use Rattle.machine_spec.specs.State.{still};
 ghost use Rattle.machine_spec.specs.Step.{moved, stepNumbers, stepOf, postNumbers, postOf, freshOf};
 ghost use Rattle.machine_spec.specs.Run.{runOf};
 ghost use Rattle.machine_step.specs.MachineStepInner.{stateOf};
-
-mod running;
-
 use machine_spec::Moved;
 use machine_spec::Ran;
 use machine_spec::State;
-use machine_step::Masks;
+use machine_step::StateMasks;
 
 fn answer(number: u8, place: u8, s: State) -> Moved
     ensures { λ m. ⌜ m ≡ moved number place s ⌝ }
@@ -46,7 +43,7 @@ pub fn fresh(table: &[u8; 9092], cells: [i64; 32]) -> Moved
     if a.number != 0 {
         return answer(a.number, a.place, none);
     }
-    let m = Masks {
+    let m = StateMasks {
         waiting: 0,
         faults: 0,
     };
@@ -57,7 +54,7 @@ pub fn fresh(table: &[u8; 9092], cells: [i64; 32]) -> Moved
 }
 
 // A step's own numbers, upward: 11 to 14, or 0.
-fn step_number(table: &[u8], cells: &[i64; 32], m: Masks, r: u32) -> u8
+fn step_number(table: &[u8], cells: &[i64; 32], m: StateMasks, r: u32) -> u8
     requires { ⌜ Sizes (now table) (byteAt (now table) 1) (byteAt (now table) 2) ⌝ }
     ensures { λ x. ⌜ x ≡ firstOf 0 (stepNumbers (tableFrom (now (table .entry))) (stateOf (now (cells .entry)) m) r) ⌝ }
 {
@@ -72,7 +69,7 @@ fn step_number(table: &[u8], cells: &[i64; 32], m: Masks, r: u32) -> u8
     if !mask::has(m.waiting, i) {
         return 13;
     }
-    let rows = table::goes_before(table, n);
+    let rows = table_rows::goes_before(table, n);
     if mask::has(mask::gather(&rows, m.waiting), i) {
         return 14;
     }
@@ -88,7 +85,7 @@ pub fn step(table: &[u8; 9092], s: State, r: u32) -> Moved
         return answer(a.number, a.place, s);
     }
     let mut cells = s.cells;
-    let m = Masks {
+    let m = StateMasks {
         waiting: s.waiting,
         faults: s.faults,
     };
@@ -96,21 +93,21 @@ pub fn step(table: &[u8; 9092], s: State, r: u32) -> Moved
     if number != 0 {
         return answer(number, 255, s);
     }
-    let row = table::watches(table, rule::count(table[1]));
+    let row = table_rows::watches(table, rule::count(table[1]));
     let after = machine_step::turn(table, r as usize, &row, &mut cells, m);
-    let stepped = running::joined(cells, after);
+    let stepped = machine_run::joined(cells, after);
     answer(0, 255, stepped)
 }
 
 // A posting's own numbers, upward: 11 and 16, or 0.
-fn post_number(table: &[u8], cells: &[i64; 32], m: Masks, cell: u32, value: i64) -> u8
+fn post_number(table: &[u8], cells: &[i64; 32], m: StateMasks, cell: u32, value: i64) -> u8
     requires { ⌜ Sizes (now table) (byteAt (now table) 1) (byteAt (now table) 2) ⌝ }
     ensures { λ x. ⌜ x ≡ firstOf 0 (postNumbers (tableFrom (now (table .entry))) (stateOf (now (cells .entry)) m) cell value) ⌝ }
 {
     if machine_step::state_bad(table[1], table[2], cells, m) {
         return 11;
     }
-    if (rule::count(table[2]) <= cell as usize) | rule_check::out_of_range(value) {
+    if (rule::count(table[2]) <= cell as usize) | rule_fields::out_of_range(value) {
         return 16;
     }
     0
@@ -125,7 +122,7 @@ pub fn post(table: &[u8; 9092], s: State, cell: u32, value: i64) -> Moved
         return answer(a.number, a.place, s);
     }
     let mut cells = s.cells;
-    let m = Masks {
+    let m = StateMasks {
         waiting: s.waiting,
         faults: s.faults,
     };
@@ -133,13 +130,13 @@ pub fn post(table: &[u8; 9092], s: State, cell: u32, value: i64) -> Moved
     if number != 0 {
         return answer(number, 255, s);
     }
-    let row = table::watches(table, rule::count(table[1]));
+    let row = table_rows::watches(table, rule::count(table[1]));
     let changed = rule_act::put(&mut cells, cell as usize, value, 0);
-    let after = Masks {
+    let after = StateMasks {
         waiting: machine_step::woken(&row, s.waiting, changed),
         faults: s.faults,
     };
-    let posted = running::joined(cells, after);
+    let posted = machine_run::joined(cells, after);
     answer(0, 255, posted)
 }
 
@@ -157,15 +154,15 @@ pub fn run(table: &[u8; 9092], s: State, budget: u32) -> Ran
         };
     }
     let cells = s.cells;
-    let m = Masks {
+    let m = StateMasks {
         waiting: s.waiting,
         faults: s.faults,
     };
     if machine_step::state_bad(table[1], table[2], &cells, m) {
-        return running::ran(11, s, 0);
+        return machine_run::ran(11, s, 0);
     }
     let n = rule::count(table[1]);
-    let row = table::watches(table, n);
-    let rows = table::goes_before(table, n);
-    running::runs(table, &row, &rows, s, budget)
+    let row = table_rows::watches(table, n);
+    let rows = table_rows::goes_before(table, n);
+    machine_run::runs(table, &row, &rows, s, budget)
 }

@@ -14,11 +14,12 @@ use Rattle.rule.specs.Uses.{watches}
 use Rattle.table.specs.Table.{Table, ruleAt}
 use Rattle.table.specs.Check.{Sound}
 use Rattle.table.proofs.SoundLaws.{parts}
-use Rattle.rule_act.specs.Amounts.{at, anyFalse, anyOut, stored}
+use Rattle.rule_sums.specs.Sums.{at}
+use Rattle.rule_act.specs.Amounts.{anyFalse, anyOut, stored}
 use Rattle.rule_act.specs.RuleActInner.{changes}
 use Rattle.rule_act.proofs.AmountsLaws.{length-stored}
 use Rattle.rule_act.proofs.ActsLaws.{overflows, acted}
-use Rattle.rule_act.proofs.PenceLaws.{alike}
+use Rattle.rule_sums.proofs.PenceLaws.{alike}
 use Rattle.rule.proofs.CellsBelowLaws.{watches-below, targets-below}
 use Rattle.machine_spec.specs.declared.State.{State}
 use Rattle.machine_spec.specs.State.{Fits, waits}

@@ -15,6 +15,7 @@ use Rattle.rule.specs.Numbers as Numbers
 use Rattle.table.specs.Table.{Table}
 use Rattle.table.specs.Table as Table
 use Rattle.table.specs.Check as Check
+use Rattle.rule_sums.specs.Sums as Sums
 use Rattle.rule_act.specs.Amounts as Amounts
 use Rattle.machine_spec.specs.declared.State.{State}
 use Rattle.machine_spec.specs.State as State
@@ -96,8 +97,8 @@ pub facts : Facts
 unfolding stepOf Step.answered Step.stepNumbers Step.effect Step.rested Step.marked Step.storedAndWoken Step.wakes State.stateBad
     State.heldBack Check.checkOf Check.sizesBad Check.numberAt Check.firstBad Check.firstSlot Graph.cyclic Table.goesBefore Graph.leads
     Search.some Search.least Mask.has Mask.beyond Mask.maskOf Numbers.countsBad Numbers.cellsBad Numbers.formsBad Numbers.twice
-    Numbers.lettersBad Numbers.nameTaken Numbers.sameName Numbers.ruleNumber Numbers.ruleSlotBad Amounts.compares Amounts.holds
-    Amounts.anyFalse Amounts.anyOut Amounts.valueOf Amounts.operated Amounts.storedBy
+    Numbers.lettersBad Numbers.nameTaken Numbers.sameName Numbers.ruleNumber Numbers.ruleSlotBad Sums.compares Sums.holds
+    Amounts.anyFalse Amounts.anyOut Sums.valueOf Sums.operated Amounts.storedBy
 facts =
     record {
       evening-fits = record { long = refl; waiting = lit< tt; faults = lit< tt; good = refl };

@@ -16,10 +16,12 @@ use Rattle.rule.specs.declared.Rule.{Rule}
 use Rattle.rule.specs.Uses.{watches, assignAt}
 use Rattle.rule.specs.Numbers.{outOfRange, notZeroZ}
 use Rattle.table.specs.Table.{Table, ruleAt}
-use Rattle.rule_act.specs.Amounts.{at, valueOf, anyOut, stored}
+use Rattle.rule_sums.specs.Sums.{at, valueOf}
+use Rattle.rule_act.specs.Amounts.{anyOut, stored}
 use Rattle.rule_act.proofs.AmountsLaws.{at-set, stored-all}
-use Rattle.rule_act.specs.RuleActInner.{changes, InRange}
-use Rattle.rule_act.proofs.PenceLaws.{same}
+use Rattle.rule_act.specs.RuleActInner.{changes}
+use Rattle.rule_sums.specs.RuleSumsInner.{InRange}
+use Rattle.rule_sums.proofs.PenceLaws.{same}
 use Rattle.machine_spec.specs.declared.State.{State}
 use Rattle.machine_spec.specs.State.{cellBad, stateBad, Fits, waits}
 use Rattle.machine_spec.specs.Step.{rested, marked, wakes, storedAndWoken}

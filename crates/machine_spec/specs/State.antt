@@ -10,7 +10,7 @@ use Rattle.mask.specs.Search.{some, least}
 use Rattle.mask.specs.Mask.{has, beyond}
 use Rattle.rule.specs.Numbers.{outOfRange, notZeroZ}
 use Rattle.table.specs.Table.{Table, goesBefore}
-use Rattle.rule_act.specs.Amounts.{at}
+use Rattle.rule_sums.specs.Sums.{at}
 use Rattle.machine_spec.specs.declared.State.{State}
 
 -- "A cell holds whole pence from -1,000,000,000,000 to 1,000,000,000,000", "Cells from k up are 0."

@@ -12,7 +12,8 @@ use Rattle.rule.specs.Uses.{watches}
 use Rattle.rule.specs.Numbers.{outOfRange, notZero}
 use Rattle.table.specs.Table.{Table, ruleAt}
 use Rattle.table.specs.Check.{checkOf, checked}
-use Rattle.rule_act.specs.Amounts.{at, differs, anyFalse, anyOut, stored}
+use Rattle.rule_sums.specs.Sums.{at, differs}
+use Rattle.rule_act.specs.Amounts.{anyFalse, anyOut, stored}
 use Rattle.machine_spec.specs.declared.State.{State}
 use Rattle.machine_spec.specs.declared.Moved.{Moved}
 use Rattle.machine_spec.specs.State.{stateBad, still, zeros, waits, heldBack}

@@ -20,12 +20,11 @@ use Rattle.rule.specs.declared.Rule.{Rule}
 use Rattle.rule.proofs.FillLaws.{getD-filled, getD-left}
 use Rattle.rule.specs.Uses.{watches}
 use Rattle.table.specs.Table.{Table, ruleAt}
-use Rattle.table.specs.TableInner.{watchesOf, Sizes}
+use Rattle.table.specs.TableInner.{watchesOf, Sizes, slotStart, ruleFrom}
 use Rattle.bytes.specs.Little.{byteAt}
 use Rattle.table.specs.Check.{Sound}
 use Rattle.table.proofs.SoundLaws.{parts}
 use Rattle.table.specs.Memory.{tableFrom}
-use Rattle.table.specs.TableInner.{slotStart, ruleFrom}
 use Rattle.table.proofs.ImageLaws.{rule-from}
 use Rattle.rule_act.specs.RuleActInner.{changes, Steppable, changedCells, Slot, Stored}
 use Rattle.rule_act.specs.Amounts.{anyFalse, anyOut, stored}

@@ -12,10 +12,10 @@ use Rattle.rule_act.specs.RuleActInner.{changes}
 use Rattle.machine_spec.specs.declared.State.{State}
 use Rattle.machine_spec.specs.State.{waits, cellBad}
 use Rattle.machine_spec.specs.Step.{rested, marked}
-use Rattle.machine_step.specs.declared.Masks.{Masks}
+use Rattle.machine_step.specs.declared.StateMasks.{StateMasks}
 
 -- the state with these cells
-abbrev pub stateOf : List ℤ → Masks → State
+abbrev pub stateOf : List ℤ → StateMasks → State
 stateOf cells m = record { cells = cells; waiting = m .waiting; faults = m .faults }
 
 -- 11, of a table of n rules and k cells

@@ -5,13 +5,14 @@ ghost use Prim.Native.Nat.{_≤_, _<_};
 ghost use lib.ListN.{getD};
 ghost use Rattle.mask.specs.Search.{some};
 ghost use Rattle.mask.specs.Mask.{has, meet, maskOf};
-ghost use Rattle.rule_act.specs.RuleActInner.{InRange, Slot};
+ghost use Rattle.rule_sums.specs.RuleSumsInner.{InRange};
+ghost use Rattle.rule_act.specs.RuleActInner.{Slot};
 ghost use Rattle.table.specs.TableInner.{slotStart, ruleFrom};
 ghost use Rattle.machine_spec.specs.State.{cellBad};
 ghost use Rattle.machine_step.specs.MachineStepInner.{stateOf, stateBadBy, effectBy};
 
 // Who waits, and who has a fault mark: a state without its cells.
-pub struct Masks {
+pub struct StateMasks {
     pub waiting: u32,
     pub faults: u32,
 }
@@ -24,13 +25,13 @@ fn cells_bad(cells: &[i64; 32], k: usize) -> bool
     for c in 0..32 {
         let v = cells[c];
         let below = c < k;
-        bad = ((below & rule_check::out_of_range(v)) | (!below & ((v < 0) | (0 < v)))) | bad;
+        bad = ((below & rule_fields::out_of_range(v)) | (!below & ((v < 0) | (0 < v)))) | bad;
     }
     bad
 }
 
 // 11: whether the state does not fit a table of n rules and k cells.
-pub fn state_bad(n: u8, k: u8, cells: &[i64; 32], m: Masks) -> bool
+pub fn state_bad(n: u8, k: u8, cells: &[i64; 32], m: StateMasks) -> bool
     requires { ⌜ n ≤ 32 ⌝ }
     ensures { λ r. ⌜ r ≡ stateBadBy n k (stateOf (now (cells .entry)) m) ⌝ }
 {
@@ -48,12 +49,12 @@ pub fn woken(row: &[u32; 32], waiting: u32, m: u32) -> u32
 }
 
 // The paper's step on rule r: what the cells and the masks are after it.
-pub fn turn(s: &[u8], r: usize, row: &[u32; 32], cells: &mut [i64; 32], m: Masks) -> Masks
+pub fn turn(s: &[u8], r: usize, row: &[u32; 32], cells: &mut [i64; 32], m: StateMasks) -> StateMasks
     requires { ⌜ Slot (now s) (slotStart r) × InRange (now cells) × (r < 32) ⌝ }
     ensures { λ x. ⌜ stateOf (now (cells .exit)) x ≡ effectBy (ruleFrom (now (s .entry)) r) (now (row .entry)) (stateOf (now (cells .entry)) m) r ⌝ }
 {
     let at = 4 + 284 * r;
-    let rest = Masks {
+    let rest = StateMasks {
         waiting: mask::without(m.waiting, r),
         faults: m.faults,
     };
@@ -62,13 +63,13 @@ pub fn turn(s: &[u8], r: usize, row: &[u32; 32], cells: &mut [i64; 32], m: Masks
     }
     let mut values = [0i64; 8];
     if rule_act::right_sides(s, at, cells, &mut values) {
-        return Masks {
+        return StateMasks {
             waiting: rest.waiting,
             faults: mask::with(rest.faults, r),
         };
     }
     let changed = rule_act::store(s, at, &values, cells);
-    Masks {
+    StateMasks {
         waiting: woken(row, rest.waiting, changed),
         faults: rest.faults,
     }

@@ -5,12 +5,11 @@ use Prim.Native.Nat.{ℕ, _^_, _<_}
 use native.Mathlib.Decide.{ℕ-discrete}
 use Rattle.bytes.specs.EachByte.{Bytes}
 use Rattle.table.specs.Table.{Table, ruleAt}
-use Rattle.book_read.specs.Read.{Reading, tableIn, readOf}
-use Rattle.book_read.specs.Spread.{told}
-use Rattle.book_read.proofs.ReadLaws.{read-done}
+use Rattle.book_judge.specs.Read.{Reading, tableIn, readOf, told}
+use Rattle.book_judge.proofs.ReadLaws.{read-done}
 use Rattle.analysis.proofs.SaysLaws.{report-unique, bound-of-unique}
-use Rattle.report_lines.proofs.BodyMasksLaws.{narrow}
-use Rattle.report_lines.specs.Text.{fourLines}
+use Rattle.report_masks.proofs.BodyMasksLaws.{narrow}
+use Rattle.report_lines.specs.FourLines.{fourLines}
 use Rattle.report_lines.specs.declared.Printed.{Printed}
 use Rattle.report_lines.specs.Lines.{laid, FourLines, TextOf, LinesSay}
 

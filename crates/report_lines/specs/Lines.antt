@@ -9,13 +9,12 @@ use Rattle.bytes.specs.Put.{put}
 use Rattle.table.specs.Table.{Table}
 use Rattle.table.specs.declared.Answer.{Answer}
 use Rattle.table.specs.Check.{Checked}
-use Rattle.book_read.specs.Read.{Reading, readOf}
-use Rattle.book_read.specs.Spread.{told}
+use Rattle.book_judge.specs.Read.{Reading, readOf, told}
 use Rattle.analysis_masks.specs.declared.Report.{Report}
 use Rattle.analysis_masks.specs.declared.Bound.{Bound}
 use Rattle.analysis.specs.Says.{ReportSays, BoundSays}
 use Rattle.report_lines.specs.declared.Printed.{Printed}
-use Rattle.report_lines.specs.Text.{refusedLine, fourLines}
+use Rattle.report_lines.specs.FourLines.{refusedLine, fourLines}
 
 -- the number, the place and the length of a text, and the buffer with the text at its start; a buffer that is too short stays as it
 -- is, and the length is 0

@@ -1,19 +1,13 @@
 -- What only contracts of inner functions of `report_lines` cite.
 use mathlib.Core.Path.{_≡_}
-use mathlib.Core.List.{List, _++_}
-use Prim.Native.Nat.{ℕ, _+_, _≤_, _-_, _^_}
+use mathlib.Core.List.{List}
+use Prim.Native.Nat.{ℕ, _≤_, _-_, _^_}
 use lib.ListN.{length, take}
 use Rattle.table.specs.Table.{Table}
 use Rattle.analysis_masks.specs.declared.Bound.{Bound}
 use Rattle.analysis.specs.Says.{ReportSays, BoundSays}
 use Rattle.analysis_masks.specs.AnalysisMasksInner.{reportIn}
 use Rattle.report_lines.specs.declared.Found.{Found}
-
--- a text is the first bytes of a buffer: in e it has after the text of d the bytes bs, and is longer by at most m
-pub record Added (d : List ℕ) (at : ℕ) (bs : List ℕ) (m : ℕ) (e : List ℕ) (end : ℕ) : Type 0 where
-  pub text : take end e ≡ take at d ++ bs
-  pub size : length e ≡ length d
-  pub most : end ≤ at + m
 
 -- what is found of a table: a report, all but its marks, and the step bound of all rules
 pub record FoundOf (t : Table) (f : Found) : Type 0 where

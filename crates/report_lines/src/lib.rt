@@ -3,16 +3,13 @@ ghost use mathlib.Core.Path.{_≡_};
 ghost use mathlib.Core.List.{_∷_, []};
 ghost use Prim.Native.Nat.{_+_, _≤_};
 ghost use lib.ListN.{length, take};
-ghost use Rattle.book_read.specs.Read.{tableIn, readOf};
-ghost use Rattle.book_read.specs.Spread.{told};
+ghost use Rattle.book_judge.specs.Read.{tableIn, readOf, told};
 ghost use Rattle.analysis_masks.specs.AnalysisMasksInner.{reportIn};
-ghost use Rattle.report_lines.specs.Text.{line, endsLine, pairsLine, clearedLine};
-ghost use Rattle.report_lines.specs.ReportLinesInner.{Added, FoundOf, Texted};
+ghost use Rattle.report_text.specs.Text.{line};
+ghost use Rattle.report_lines.specs.FourLines.{endsLine, pairsLine, clearedLine};
+ghost use Rattle.report_text.specs.ReportTextInner.{Added};
+ghost use Rattle.report_lines.specs.ReportLinesInner.{FoundOf, Texted};
 ghost use Rattle.report_lines.specs.Lines.{laid, FourLines, TextOf, LinesSay};
-
-mod masks;
-mod text;
-
 use analysis_masks::Summary;
 use table::Answer;
 
@@ -33,9 +30,9 @@ fn numbered(out: &mut [u8; 512], at: usize, w: &[u8], a: u8, b: u8) -> usize
     requires { ⌜ (at + 30 ≤ 512) × (length (now w) ≤ 7) ⌝ }
     ensures { λ r. ⌜ Added (now (out .entry)) at (line (now (w .entry)) (a ∷ b ∷ [])) 30 (now (out .exit)) r ⌝ }
 {
-    let word = text::word(out, at, w);
-    let end = text::two_numbers(out, word, a, b);
-    text::push(out, end, 10)
+    let word = report_text::word(out, at, w);
+    let end = report_text::two_numbers(out, word, a, b);
+    report_text::push(out, end, 10)
 }
 
 fn ends_line(out: &mut [u8; 512], at: usize, faulty: u32, bound: u32) -> usize
@@ -43,13 +40,13 @@ fn ends_line(out: &mut [u8; 512], at: usize, faulty: u32, bound: u32) -> usize
     ensures { λ r. ⌜ Added (now (out .entry)) at (endsLine faulty bound) 360 (now (out .exit)) r ⌝ }
 {
     if faulty == 0 {
-        let yes = text::word(out, at, b"ends yes");
-        let end = text::number(out, yes, bound);
-        return text::push(out, end, 10);
+        let yes = report_text::word(out, at, b"ends yes");
+        let end = report_text::number(out, yes, bound);
+        return report_text::push(out, end, 10);
     }
-    let no = text::word(out, at, b"ends no");
-    let end = text::members(out, no, faulty);
-    text::push(out, end, 10)
+    let no = report_text::word(out, at, b"ends no");
+    let end = report_text::members(out, no, faulty);
+    report_text::push(out, end, 10)
 }
 
 // The marks of a report are not printed.
@@ -57,14 +54,14 @@ fn pairs_line(out: &mut [u8; 512], at: usize, v: Summary) -> usize
     requires { ⌜ at + 61 ≤ 512 ⌝ }
     ensures { λ u. ⌜ Added (now (out .entry)) at (pairsLine (reportIn v [])) 61 (now (out .exit)) u ⌝ }
 {
-    let word = text::word(out, at, b"pairs");
-    let failing = text::number(out, word, text::wider(v.failing));
+    let word = report_text::word(out, at, b"pairs");
+    let failing = report_text::number(out, word, report_text::wider(v.failing));
     if v.failing == 0 {
-        return text::push(out, failing, 10);
+        return report_text::push(out, failing, 10);
     }
-    let first = text::two_numbers(out, failing, v.first, v.second);
-    let end = text::two_numbers(out, first, v.culprit, v.other);
-    text::push(out, end, 10)
+    let first = report_text::two_numbers(out, failing, v.first, v.second);
+    let end = report_text::two_numbers(out, first, v.culprit, v.other);
+    report_text::push(out, end, 10)
 }
 
 fn cleared_line(out: &mut [u8; 512], at: usize, cleared: bool) -> usize
@@ -72,9 +69,9 @@ fn cleared_line(out: &mut [u8; 512], at: usize, cleared: bool) -> usize
     ensures { λ r. ⌜ Added (now (out .entry)) at (clearedLine cleared) 12 (now (out .exit)) r ⌝ }
 {
     if cleared {
-        return text::word(out, at, b"cleared yes\n");
+        return report_text::word(out, at, b"cleared yes\n");
     }
-    text::word(out, at, b"cleared no\n")
+    report_text::word(out, at, b"cleared no\n")
 }
 
 // The report, but for its marks, and the step bound of all rules of a book that was read.
@@ -82,7 +79,7 @@ fn judged(book: &[u8]) -> Found
     requires { ⌜ readOf (now book) .number ≡ 0 ⌝ }
     ensures { λ f. ⌜ FoundOf (tableIn (now (book .entry))) f ⌝ }
 {
-    let m = masks::taken(book);
+    let m = report_masks::taken(book);
     let n = m.n;
     let watch = m.watch;
     let reads = m.reads;
@@ -145,7 +142,7 @@ fn copy(a: Answer, text: &[u8], n: usize, out: &mut [u8]) -> Printed
 pub fn lines(book: &[u8], out: &mut [u8]) -> Printed
     ensures { λ r. ⌜ LinesSay (now (book .entry)) (now (out .entry)) (r, now (out .exit)) ⌝ }
 {
-    let a = book_read::judge(book);
+    let a = book_judge::judge(book);
     let mut text = [0u8; 512];
     let n = told(a, book, &mut text);
     copy(a, &text, n, out)

@@ -21,10 +21,11 @@ use Rattle.rule.specs.Empty.{noTest, noAssign}
 use Rattle.rule.proofs.FillLaws.{getD-filled}
 use Rattle.rule.specs.Uses.{testAt, assignAt}
 use Rattle.rule_read.specs.Parts.{testIn, assignIn}
-use Rattle.rule_act.specs.Amounts.{at, differs, valueOf, storedBy}
+use Rattle.rule_sums.specs.Sums.{at, valueOf, differs}
+use Rattle.rule_act.specs.Amounts.{storedBy}
 use Rattle.rule_act.specs.RuleActInner.{changes, changedCells, Steppable, slotRule, SidesSoFar, Put, Stored}
 use Rattle.rule_act.proofs.AmountsLaws.{at-set, length-stored, stored-next}
-use Rattle.rule_act.proofs.PenceLaws.{alike}
+use Rattle.rule_sums.proofs.PenceLaws.{alike}
 
 -- test j and assignment j
 module _ (s : List ℕ) (i j : ℕ) (l : j < 8) where

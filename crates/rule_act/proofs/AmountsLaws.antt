@@ -18,7 +18,8 @@ use Rattle.rule.specs.declared.Rule.{Rule}
 use Rattle.rule.specs.Empty.{noAssign}
 use Rattle.rule.specs.Uses.{usesRight, usesA, usesB, testAt, assignAt, testReads, sideReads, reads, writes}
 use Rattle.rule.specs.Numbers.{outOfRange, twice}
-use Rattle.rule_act.specs.Amounts.{at, compares, holds, anyFalse, scaled, operated, valueOf, anyOut, storedBy, stored}
+use Rattle.rule_sums.specs.Sums.{at, compares, holds, scaled, operated, valueOf}
+use Rattle.rule_act.specs.Amounts.{anyFalse, anyOut, storedBy, stored}
 
 -- c and d hold the same amounts in the cells of p
 pub record Agree (p : ℕ → Bool) (c d : List ℤ) : Type 0 where

@@ -17,7 +17,8 @@ use Rattle.rule.specs.Numbers.{outOfRange, notZero, notZeroZ, assignFormBad, fo
 use Rattle.rule.proofs.NumbersLaws.{Clean, counted}
 use Rattle.rule.specs.RuleInner.{Counted}
 use Rattle.rule.proofs.CellsBelowLaws.{targets-below}
-use Rattle.rule_act.specs.RuleActInner.{InBounds, Steppable}
+use Rattle.rule_sums.specs.RuleSumsInner.{InBounds}
+use Rattle.rule_act.specs.RuleActInner.{Steppable}
 
 -- ---- 7: the constants are in bounds
 

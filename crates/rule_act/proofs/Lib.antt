@@ -3,4 +3,3 @@ pub mod ActSlotLaws
 pub mod ActsLaws
 pub mod AmountsLaws
 pub mod InRangeLaws
-pub mod PenceLaws

@@ -7,12 +7,13 @@ use lib.Dec.{eqb}
 use lib.ListN.{set, length}
 use lib.IntN.{ℤ}
 use Rattle.mask.specs.Mask.{maskOf, has}
-use Rattle.rule.specs.declared.Assign.{Assign}
 use Rattle.rule.specs.declared.Rule.{Rule}
 use Rattle.rule.specs.Uses.{assignAt}
-use Rattle.rule.specs.Numbers.{outOfRange, twice}
+use Rattle.rule.specs.Numbers.{twice}
 use Rattle.rule_read.specs.Parts.{ruleOf}
-use Rattle.rule_act.specs.Amounts.{at, differs, valueOf, anyOut, storedBy}
+use Rattle.rule_sums.specs.Sums.{at, valueOf, differs}
+use Rattle.rule_act.specs.Amounts.{anyOut, storedBy}
+use Rattle.rule_sums.specs.RuleSumsInner.{InBounds}
 
 -- whether cell c holds another amount than before; the mask of such cells
 abbrev pub changes : List ℤ → List ℤ → ℕ → Bool
@@ -20,17 +21,6 @@ changes before after c = differs (at before c) (at after c)
 
 abbrev pub changedCells : List ℤ → List ℤ → ℕ
 changedCells before after = maskOf 32 (changes before after)
-
--- 32 cells, and what each holds is in range
-pub record InRange (cells : List ℤ) : Type 0 where
-  pub long : length cells ≡ 32
-  pub each : (c : ℕ) → outOfRange (at cells c) ≡ false
-
--- "Constants are in range", "p 0 to 1,000,000 and q 1 to 1,000,000"
-pub record InBounds (x : Assign) : Type 0 where
-  pub constant : outOfRange (x .k) ≡ false
-  pub times : x .p ≤ 1000000
-  pub over : x .operation ≡ 4 → 1 ≤ x .q
 
 -- the counts, the assignments' constants, and targets among the 32 cells, none of them twice
 pub record Steppable (r : Rule) : Type 0 where

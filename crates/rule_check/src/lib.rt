@@ -3,21 +3,12 @@ ghost use mathlib.Core.Path.{_≡_};
 ghost use Prim.Native.Nat.{_+_, _*_, _≤_, _<_};
 ghost use lib.ListN.{length};
 ghost use Rattle.mask.specs.Search.{some};
-ghost use Rattle.rule.specs.Numbers.{outOfRange, testCellBad, assignCellBad, letterBad, countsBad};
+ghost use Rattle.rule.specs.Numbers.{testCellBad, assignCellBad, letterBad, countsBad};
 ghost use Rattle.mask.specs.Mask.{beyond};
 ghost use Rattle.bytes.specs.Little.{byteAt, u32At};
 ghost use Rattle.rule_read.specs.Parts.{testIn, assignIn, ruleOf};
 ghost use Rattle.rule_check.specs.RuleCheckInner.{Lies, Fitted, testBad, assignBad, letterLeft, takenAt, takenIn};
 ghost use Rattle.rule_check.specs.RuleCheckInner.{cellsIn, formsIn, twiceIn, lettersIn, numberWith};
-
-mod fields;
-
-// Whether an amount is out of range.
-pub fn out_of_range(v: i64) -> bool
-    ensures { λ r. ⌜ r ≡ outOfRange v ⌝ }
-{
-    (v < -1000000000000) | (1000000000000 < v)
-}
 
 // Whether one of the first i names of the row is this one.
 pub fn taken(names: &[u64; 64], i: usize, low: u64, high: u64) -> bool
@@ -49,7 +40,7 @@ fn test_cells_bad(s: &[u8], p: usize, t: usize, k: u8) -> bool
     let mut bad = false;
     for j in 0..t {
         let x = rule_read::read_test(s, p + 12 * j);
-        bad = fields::test_cell_bad(x, k) | bad;
+        bad = rule_fields::test_cell_bad(x, k) | bad;
     }
     bad
 }
@@ -61,7 +52,7 @@ fn assign_cells_bad(s: &[u8], p: usize, a: usize, k: u8) -> bool
     let mut bad = false;
     for j in 0..a {
         let x = rule_read::read_assign(s, p + 20 * j);
-        bad = fields::assign_cell_bad(x, k) | bad;
+        bad = rule_fields::assign_cell_bad(x, k) | bad;
     }
     bad
 }
@@ -74,7 +65,9 @@ fn test_forms_bad(s: &[u8], p: usize, t: usize, room: usize) -> bool
     for j in 0..room {
         let x = rule_read::read_test(s, p + 12 * j);
         let counted = j < t;
-        bad = ((counted & fields::test_form_bad(x)) | (!counted & fields::test_slot_bad(x))) | bad;
+        bad = ((counted & rule_fields::test_form_bad(x))
+            | (!counted & rule_fields::test_slot_bad(x)))
+            | bad;
     }
     bad
 }
@@ -87,7 +80,8 @@ fn assign_forms_bad(s: &[u8], p: usize, a: usize, room: usize) -> bool
     for j in 0..room {
         let x = rule_read::read_assign(s, p + 20 * j);
         let counted = j < a;
-        bad = ((counted & fields::assign_form_bad(x)) | (!counted & fields::assign_slot_bad(x)))
+        bad = ((counted & rule_fields::assign_form_bad(x))
+            | (!counted & rule_fields::assign_slot_bad(x)))
             | bad;
     }
     bad
@@ -110,7 +104,7 @@ fn letters_bad(s: &[u8], p: usize, m: usize) -> bool
 {
     let mut bad = false;
     for j in 0..m {
-        bad = fields::letter_bad(s[p + j]) | bad;
+        bad = rule_fields::letter_bad(s[p + j]) | bad;
     }
     bad
 }

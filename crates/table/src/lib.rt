@@ -1,12 +1,10 @@
-// A table as the 9,092 bytes where they lie: its masks, and the checks that every call on a table makes first.
+// A table as the 9,092 bytes where they lie: the checks that every call on a table makes first.
 ghost use mathlib.Core.Path.{_≡_};
-ghost use Prim.Native.Nat.{ℕ, _+_, _*_, _≤_, _<_};
-ghost use lib.ListN.{length, getD, replicate};
-ghost use Rattle.mask.specs.Mask.{has};
+ghost use Prim.Native.Nat.{_≤_};
+ghost use lib.ListN.{length, replicate};
 ghost use Rattle.graph.specs.Graph.{cyclic};
 ghost use Rattle.bytes.specs.Little.{byteAt};
-ghost use Rattle.table.specs.Table.{precedesOf, goesBefore};
-ghost use Rattle.table.specs.TableInner.{watchesOf};
+ghost use Rattle.table.specs.Table.{precedesOf};
 ghost use Rattle.table.specs.Check.{sizesBad, firstSlot, checkOf};
 ghost use Rattle.table.specs.Memory.{tableFrom};
 ghost use Rattle.table.specs.TableInner.{Sizes, judged, anySet};
@@ -88,30 +86,6 @@ fn first_slot(s: &[u8], n: usize) -> usize
         }
     }
     32
-}
-
-// The row of the rules' watch masks.
-pub fn watches(s: &[u8], n: usize) -> [u32; 32]
-    requires { ⌜ (length (now s) ≡ 9092) × (n ≡ byteAt (now s) 1) × (n ≤ 32) ⌝ }
-    ensures { λ q. ⌜ q ≡ watchesOf (tableFrom (now (s .entry))) ⌝ }
-{
-    rule_read::column(s, 4, 284, n)
-}
-
-// The row of the rules' precedes masks.
-pub fn precedes(s: &[u8], n: usize) -> [u32; 32]
-    requires { ⌜ (length (now s) ≡ 9092) × (n ≡ byteAt (now s) 1) × (n ≤ 32) ⌝ }
-    ensures { λ q. ⌜ q ≡ precedesOf (tableFrom (now (s .entry))) ⌝ }
-{
-    rule_read::column(s, 8, 284, n)
-}
-
-// Mask r of the result: the rules that r goes before.
-pub fn goes_before(s: &[u8], n: usize) -> [u32; 32]
-    requires { ⌜ (length (now s) ≡ 9092) × (n ≡ byteAt (now s) 1) × (n ≤ 32) ⌝ }
-    ensures { λ q. ⌜ ((r x : ℕ) → has (getD q r 0) x ≡ goesBefore (tableFrom (now (s .entry))) r x) ⌝ }
-{
-    graph::closure(precedes(s, n), n)
 }
 
 // Whether a row of masks has a cycle among the first n.

@@ -5,9 +5,8 @@ use Rattle.bytes.specs.EachByte.{Bytes}
 use Rattle.table.specs.Memory.{tableFrom}
 use Rattle.analysis_pairs.specs.declared.Masks.{Masks}
 use Rattle.analysis_pairs.specs.AnalysisPairsInner.{masksIn}
-use Rattle.analysis_masks.specs.AnalysisMasksInner.{Orderly}
+use Rattle.analysis_masks.specs.AnalysisMasksInner.{Orderly, reportIn}
 use Rattle.analysis_masks.specs.Report.{Reported}
-use Rattle.analysis_masks.specs.AnalysisMasksInner.{reportIn}
 use Rattle.analysis.specs.TableMasks.{masksOf}
 use Rattle.analysis.specs.AnalysisInner.{SoundBytes}
 use Rattle.analysis.proofs.TableMasksLaws.{few-from, orderly-from, rows-from}

@@ -3,7 +3,7 @@ use mathlib.Core.Path.{refl, sym, subst}
 use Rattle.table.specs.Check.{Sound}
 use Rattle.table.specs.Memory.{tableFrom}
 use Rattle.analysis_masks.specs.Report.{Reported}
-use Rattle.analysis_masks.specs.AnalysisMasksInner.{noMarks}
+use Rattle.analysis_marks.specs.AnalysisMarksInner.{noMarks}
 use Rattle.analysis.specs.TableMasks.{masksOf}
 use Rattle.analysis.proofs.SaysLaws.{refuses, sound-checked, sound-reports}
 use borrow.Author.Needs.{needs}

@@ -6,9 +6,7 @@ use native.Mathlib.Omega.{arith}
 use lib.ListN.{replicate, length-replicate}
 use Rattle.mask.specs.MaskInner.{Upto}
 use Rattle.mask.proofs.LoopsLaws.{upto-none, upto-store}
-use Rattle.analysis_pairs.specs.AnalysisPairsInner.{clashes}
-use Rattle.analysis_pairs.specs.AnalysisPairsInner.{masksIn}
-use Rattle.analysis_pairs.specs.AnalysisPairsInner.{clashing}
+use Rattle.analysis_pairs.specs.AnalysisPairsInner.{clashes, masksIn, clashing}
 use Rattle.analysis_pairs.proofs.ClashingLaws.{clash-law}
 use Rattle.analysis_pairs.proofs.RowsLaws.{Row, rows-by}
 use borrow.Author.Needs.{needs}

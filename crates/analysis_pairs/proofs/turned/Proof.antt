@@ -9,9 +9,8 @@ use lib.ListN.{replicate, length-replicate}
 use Rattle.mask.proofs.BitsLaws.{has-zero}
 use Rattle.mask.specs.MaskInner.{Upto}
 use Rattle.mask.proofs.LoopsLaws.{upto-none, upto-store}
-use Rattle.analysis_pairs.specs.AnalysisPairsInner.{edge}
+use Rattle.analysis_pairs.specs.AnalysisPairsInner.{edge, turnedOf}
 use Rattle.analysis_pairs.proofs.RowsLaws.{turned-within, Row, rows-by}
-use Rattle.analysis_pairs.specs.AnalysisPairsInner.{turnedOf}
 use Rattle.analysis_pairs.proofs.TurnedLaws.{meet-one}
 use borrow.Author.Needs.{needs}
 use Rattle.analysis_pairs.proofs.turned.Statement.{statement}

@@ -7,9 +7,9 @@ use Rattle.bytes.proofs.PutLaws.{put-whole}
 use Rattle.table.specs.declared.Answer.{Answer}
 use Rattle.table.specs.Memory.{tableBytes}
 use Rattle.table.proofs.ZerosLaws.{empty-zeros}
-use Rattle.book_read.specs.Read.{Reading, readOf}
-use Rattle.book_read.proofs.ReadLaws.{Taken, read-done}
-use Rattle.book_read.proofs.AnswerLaws.{refused-empty, bodies}
+use Rattle.book_judge.specs.Read.{Reading, readOf}
+use Rattle.book_judge.proofs.ReadLaws.{Taken, read-done}
+use Rattle.book_judge.proofs.AnswerLaws.{refused-empty, bodies}
 use Rattle.book_read.proofs.read.Statement.{statement}
 use Rattle.book_read.proofs.read.Tie as tie
 

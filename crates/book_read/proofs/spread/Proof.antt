@@ -14,10 +14,10 @@ use Rattle.rule.proofs.FillLaws.{getD-left}
 use Rattle.rule_write.specs.Pieces.{slotBytes}
 use Rattle.table.specs.Memory.{tableBytes}
 use Rattle.table.proofs.MemoryLaws.{rulesBytes, length-rules, length-table}
-use Rattle.book_read.specs.Read.{ruleIn, tableIn}
-use Rattle.book_read.proofs.InsideLaws.{counts, room}
-use Rattle.book_read.specs.BookReadInner.{nOf, kOf, bodyIn, Stretch}
-use Rattle.book_read.proofs.ReadLaws.{rule-in}
+use Rattle.book_judge.specs.Read.{ruleIn, tableIn}
+use Rattle.book_judge.proofs.InsideLaws.{counts, room}
+use Rattle.book_judge.specs.BookJudgeInner.{nOf, kOf, bodyIn, Stretch}
+use Rattle.book_judge.proofs.ReadLaws.{rule-in}
 use Rattle.rule_write.proofs.SlotsLaws.{zero-slot}
 use Rattle.book_read.proofs.SpreadLaws.{zeroBytes}
 use borrow.Author.Needs.{needs}

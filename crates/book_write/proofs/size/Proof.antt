@@ -9,9 +9,10 @@ use Rattle.table.specs.declared.Answer.{Answer}
 use Rattle.table.specs.Check.{checkOf}
 use Rattle.table.specs.Memory.{tableFrom}
 use Rattle.table.specs.BodyStarts.{startAt}
-use Rattle.book_write.specs.BookWriteInner.{sizesOf}
-use Rattle.book_write.proofs.BookLaws.{ready, length-book}
-use Rattle.book_write.proofs.BodyWriteLaws.{count-from}
+use Rattle.book_parts.specs.BookPartsInner.{sizesOf}
+use Rattle.book_parts.proofs.PartsLaws.{ready}
+use Rattle.book_write.proofs.BookLaws.{length-book}
+use Rattle.book_parts.proofs.BodyWriteLaws.{count-from}
 use Rattle.book_write.specs.Write.{written}
 use Rattle.book_write.proofs.WriteLaws.{size-refused, size-done}
 use borrow.Author.Needs.{needs}

@@ -12,9 +12,10 @@ use Rattle.table.specs.Check.{checkOf}
 use Rattle.table.specs.Memory.{tableFrom}
 use Rattle.table.specs.BodyStarts.{startAt}
 use Rattle.book_write.specs.Book.{bookOf}
-use Rattle.book_write.specs.BookWriteInner.{Ready, sizesOf, contentsBytes, bodiesBytes}
-use Rattle.book_write.proofs.BookLaws.{ready, length-book, length-bodies}
-use Rattle.book_write.proofs.BodyWriteLaws.{count-from, head-from}
+use Rattle.book_parts.specs.BookPartsInner.{Ready, sizesOf, contentsBytes, bodiesBytes}
+use Rattle.book_parts.proofs.PartsLaws.{ready, length-bodies}
+use Rattle.book_write.proofs.BookLaws.{length-book}
+use Rattle.book_parts.proofs.BodyWriteLaws.{count-from, head-from}
 use Rattle.book_write.specs.Write.{written}
 use Rattle.book_write.proofs.WriteLaws.{write-refused, write-short, write-done, put-book}
 use borrow.Author.Needs.{needs}

@@ -5,9 +5,9 @@ use Rattle.table.specs.declared.Answer.{Answer}
 use Rattle.analysis_pairs.specs.declared.Masks.{Masks}
 use Rattle.analysis_pairs.specs.AnalysisPairsInner.{masksIn}
 use Rattle.analysis_masks.specs.Report.{Reported}
-use Rattle.analysis_masks.specs.AnalysisMasksInner.{noMarks}
+use Rattle.analysis_marks.specs.AnalysisMarksInner.{noMarks}
 use Rattle.analysis.specs.Says.{refusedReport}
-use Rattle.editor.specs.EditorInner.{RowChecked}
+use Rattle.editor_check.specs.EditorCheckInner.{RowChecked}
 use Rattle.editor.proofs.EditorRowsLaws.{checked-in, no-number, orderly}
 use Rattle.editor.proofs.judged.Statement.{statement}
 use Rattle.editor.proofs.judged.Tie as tie

@@ -11,7 +11,7 @@ use Rattle.bytes.proofs.PutLaws.{put-nil}
 use Rattle.bytes.specs.Bytes.{i64Bytes}
 use Rattle.bytes.specs.Joined.{joined}
 use Rattle.bytes.proofs.JoinedLaws.{put-joined}
-use Rattle.rule_act.specs.Amounts.{at}
+use Rattle.rule_sums.specs.Sums.{at}
 use Rattle.layout_state.specs.States.{cellsBytes}
 use Rattle.layout_state.proofs.StatesLaws.{length-cells}
 use Rattle.layout_state.proofs.put_cells.Statement.{statement}

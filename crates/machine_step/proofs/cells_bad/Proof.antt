@@ -11,7 +11,7 @@ use borrow.Author.Needs.{needs, sfits-of}
 use Rattle.mask.proofs.SearchLaws.{branch-free}
 use Rattle.mask.proofs.LoopsLaws.{Sought, sought-none, sought-more, sought-all}
 use Rattle.rule.specs.Numbers.{notZeroZ, outOfRange}
-use Rattle.rule_act.specs.Amounts.{at}
+use Rattle.rule_sums.specs.Sums.{at}
 use Rattle.machine_spec.specs.State.{cellBad}
 use Rattle.machine_step.proofs.cells_bad.Statement.{statement}
 use Rattle.machine_step.proofs.cells_bad.Tie as tie

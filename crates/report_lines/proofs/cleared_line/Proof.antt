@@ -1,8 +1,9 @@
 -- Each word is the whole line.
 use mathlib.Core.Path.{sym, ap}
 use native.Mathlib.Omega.{arith}
-use Rattle.report_lines.specs.Text.{spaced, line, clearedLine}
-use Rattle.report_lines.proofs.AddedLaws.{added-as}
+use Rattle.report_text.specs.Text.{spaced, line}
+use Rattle.report_lines.specs.FourLines.{clearedLine}
+use Rattle.report_text.proofs.AddedLaws.{added-as}
 use borrow.Author.Needs.{needs}
 use Rattle.report_lines.proofs.cleared_line.Statement.{statement}
 use Rattle.report_lines.proofs.cleared_line.Tie as tie

@@ -3,11 +3,11 @@ use Prim.Native.Nat.{_+_, _*_, _≤_}
 use native.Mathlib.Omega.{arith}
 use lib.ListN.{length}
 use Rattle.analysis_masks.specs.AnalysisMasksInner.{reportIn}
-use Rattle.book_read.specs.Read.{tableIn}
-use Rattle.book_read.specs.BookReadInner.{nOf}
-use Rattle.report_lines.specs.Text.{fourLines, pairsLine}
-use Rattle.report_lines.proofs.AddedLaws.{added-on, added-first}
-use Rattle.report_lines.proofs.BodyMasksLaws.{in-book}
+use Rattle.book_judge.specs.Read.{tableIn}
+use Rattle.book_judge.specs.BookJudgeInner.{nOf}
+use Rattle.report_lines.specs.FourLines.{fourLines, pairsLine}
+use Rattle.report_text.proofs.AddedLaws.{added-on, added-first}
+use Rattle.report_masks.proofs.BodyMasksLaws.{in-book}
 use borrow.Author.Needs.{needs}
 use Rattle.report_lines.proofs.four.Statement.{statement}
 use Rattle.report_lines.proofs.four.Tie as tie

@@ -6,19 +6,18 @@ use native.Mathlib.Omega.{arith}
 use lib.Dec.{ltb}
 use Rattle.bytes.specs.EachByte.{Bytes}
 use Rattle.analysis_pairs.specs.declared.Masks.{Masks}
-use Rattle.analysis_masks.specs.AnalysisMasksInner.{Orderly}
+use Rattle.analysis_masks.specs.AnalysisMasksInner.{Orderly, reportIn}
 use Rattle.analysis_masks.specs.Report.{Reported}
-use Rattle.analysis_masks.specs.AnalysisMasksInner.{reportIn}
-use Rattle.analysis_masks.specs.AnalysisMasksInner.{noMarks}
+use Rattle.analysis_marks.specs.AnalysisMarksInner.{noMarks}
 use Rattle.analysis_masks.specs.Bound.{Bounded}
 use Rattle.analysis_masks.proofs.BoundLaws.{triggering-orderly, bounded-in}
 use Rattle.analysis.specs.Says.{BoundSays}
 use Rattle.analysis.proofs.SaysLaws.{sound-reports, sound-bounds}
-use Rattle.book_read.specs.Read.{tableIn}
-use Rattle.book_read.specs.BookReadInner.{nOf}
-use Rattle.book_read.proofs.ReadLaws.{read-done}
+use Rattle.book_judge.specs.Read.{tableIn}
+use Rattle.book_judge.specs.BookJudgeInner.{nOf}
+use Rattle.book_judge.proofs.ReadLaws.{read-done}
 use Rattle.report_lines.proofs.LinesLaws.{all-rules}
-use Rattle.report_lines.proofs.BodyMasksLaws.{few-rules, body-orderly}
+use Rattle.report_masks.proofs.BodyMasksLaws.{few-rules, body-orderly}
 use borrow.Author.Needs.{needs}
 use Rattle.report_lines.proofs.judged.Statement.{statement}
 use Rattle.report_lines.proofs.judged.Tie as tie

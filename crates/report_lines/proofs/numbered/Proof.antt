@@ -1,7 +1,7 @@
 -- The word, the two numbers and the newline, one after another.
 use mathlib.Core.Path.{refl}
 use native.Mathlib.Omega.{arith}
-use Rattle.report_lines.proofs.AddedLaws.{added-as, added-line}
+use Rattle.report_text.proofs.AddedLaws.{added-as, added-line}
 use borrow.Author.Needs.{needs}
 use Rattle.report_lines.proofs.numbered.Statement.{statement}
 use Rattle.report_lines.proofs.numbered.Tie as tie

@@ -1,11 +1,11 @@
 -- The refused line, or the four.
 use mathlib.Core.Path.{_≡_, sym, ap, _∙_, subst}
 use Rattle.table.specs.declared.Answer.{Answer}
-use Rattle.book_read.specs.Read.{Reading, readOf}
-use Rattle.book_read.proofs.ReadLaws.{read-done}
-use Rattle.report_lines.specs.Text.{refusedLine}
+use Rattle.book_judge.specs.Read.{Reading, readOf}
+use Rattle.book_judge.proofs.ReadLaws.{read-done}
+use Rattle.report_lines.specs.FourLines.{refusedLine}
 use lib.ListN.{take}
-use Rattle.report_lines.proofs.AddedLaws.{added-first}
+use Rattle.report_text.proofs.AddedLaws.{added-first}
 use Rattle.report_lines.specs.Lines.{FourLines}
 use borrow.Author.Needs.{needs}
 use Rattle.report_lines.proofs.told.Statement.{statement}

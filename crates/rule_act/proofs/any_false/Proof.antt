@@ -9,7 +9,8 @@ use Rattle.mask.proofs.LoopsLaws.{Passed, passed-none, passed-more}
 use Rattle.rule.specs.declared.Test.{Test}
 use Rattle.rule.specs.Uses.{testAt}
 use Rattle.bytes.specs.Little.{byteAt}
-use Rattle.rule_act.specs.Amounts.{holds, anyFalse}
+use Rattle.rule_sums.specs.Sums.{holds}
+use Rattle.rule_act.specs.Amounts.{anyFalse}
 use Rattle.rule_act.specs.RuleActInner.{slotRule}
 use Rattle.rule_act.proofs.ActSlotLaws.{test-in}
 use Rattle.rule_act.proofs.any_false.Statement.{statement}

@@ -6,7 +6,7 @@ use lib.ListN.{set}
 use mir.Facts.{toZ-ofZ}
 use borrow.Author.Needs.{needs, sfits-of}
 use Rattle.mask.specs.Mask.{has}
-use Rattle.rule_act.specs.Amounts.{at, differs}
+use Rattle.rule_sums.specs.Sums.{at, differs}
 use Rattle.rule_act.proofs.put.Statement.{statement}
 use Rattle.rule_act.proofs.put.Tie as tie
 

@@ -10,8 +10,10 @@ use Rattle.rule.specs.declared.Assign.{Assign}
 use Rattle.rule.specs.Numbers.{outOfRange}
 use Rattle.rule.specs.Uses.{assignAt}
 use Rattle.bytes.specs.Little.{byteAt}
-use Rattle.rule_act.specs.Amounts.{valueOf, anyOut}
-use Rattle.rule_act.specs.RuleActInner.{InBounds, slotRule, SidesSoFar}
+use Rattle.rule_sums.specs.Sums.{valueOf}
+use Rattle.rule_act.specs.Amounts.{anyOut}
+use Rattle.rule_sums.specs.RuleSumsInner.{InBounds}
+use Rattle.rule_act.specs.RuleActInner.{slotRule, SidesSoFar}
 use Rattle.rule_act.proofs.ActSlotLaws.{assign-in, sides-none, sides-more}
 use Rattle.rule_act.proofs.right_sides.Statement.{statement}
 use Rattle.rule_act.proofs.right_sides.Tie as tie

@@ -10,9 +10,8 @@ use Rattle.graph.specs.GraphInner.{Rows}
 use Rattle.analysis_weights.specs.AnalysisWeightsInner.{Weights}
 use Rattle.analysis_pairs.specs.declared.Masks.{Masks}
 use Rattle.analysis_pairs.specs.RuleMasks.{triggers}
-use Rattle.analysis_pairs.specs.AnalysisPairsInner.{triggering}
+use Rattle.analysis_pairs.specs.AnalysisPairsInner.{triggering, Among}
 use Rattle.analysis_pairs.proofs.LentMasksLaws.{may-in, triggers-in}
-use Rattle.analysis_pairs.specs.AnalysisPairsInner.{Among}
 use Rattle.analysis_masks.specs.Cleared.{Faulty}
 use Rattle.analysis_masks.proofs.AlikeLaws.{may-within, triggers-rows}
 use Rattle.analysis_masks.proofs.ReportingLaws.{faulty-iff}

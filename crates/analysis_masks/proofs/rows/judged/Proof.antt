@@ -9,10 +9,11 @@ use Rattle.analysis_pairs.specs.RuleMasks.{rulesOf, triggers}
 use Rattle.analysis_pairs.specs.AnalysisPairsInner.{rowRules, clashes, masksIn, Among, Mutual, turnedOf}
 use Rattle.analysis_pairs.proofs.LentMasksLaws.{may-in, triggers-in, commute-in, clashes-in}
 use Rattle.analysis_pairs.proofs.RulesLaws.{Alike}
-use Rattle.analysis_masks.specs.AnalysisMasksInner.{Graphs, graphsIn}
-use Rattle.analysis_masks.proofs.MarkingLaws.{Drawn}
+use Rattle.analysis_marks.specs.AnalysisMarksInner.{Graphs, graphsIn}
+use Rattle.analysis_marks.proofs.MarkingLaws.{Drawn}
 use Rattle.analysis_masks.proofs.AlikeLaws.{may-within, clash-within, row-within, clashes-mutual, alike-turned}
-use Rattle.analysis_masks.proofs.ReportingLaws.{faulty-iff, marks-of, marks-twos, cleared-iff, first-alike}
+use Rattle.analysis_masks.proofs.ReportingLaws.{faulty-iff, marks-of, cleared-iff}
+use Rattle.analysis_marks.proofs.MarkedLaws.{marks-twos, first-alike}
 use borrow.Author.Needs.{needs}
 use Rattle.analysis_masks.proofs.rows.judged.Statement.{statement}
 use Rattle.analysis_masks.proofs.rows.judged.Tie as tie

@@ -1,0 +1,4 @@
+-- What the contracts of `analysis_marks` cite; `AnalysisMarksInner` is for inner functions alone.
+pub mod AnalysisMarksInner
+pub mod Index
+pub mod Marks

@@ -1,0 +1,2 @@
+-- What the contracts of `book_parts` cite, all of them inner.
+pub mod BookPartsInner

@@ -1,0 +1,3 @@
+-- What the contracts of `editor_check` cite; `EditorCheckInner` is for inner functions alone.
+pub mod EditorCheckInner
+pub mod RowNumbers

@@ -1,2 +1,0 @@
--- What the contracts of `machine` cite, all of them inner.
-pub mod MachineInner
