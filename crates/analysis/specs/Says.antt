@@ -12,19 +12,8 @@ use Rattle.analysis.specs.TableMasks.{masksOf}
 
 -- "A refused report has only zeros beside number and place."
 abbrev pub refusedReport : ℕ → ℕ → Report
-refusedReport number place =
-    record {
-      number = number;
-      place = place;
-      cleared = false;
-      faulty = 0;
-      marks = replicate 496 0;
-      failing = 0;
-      first = 0;
-      second = 0;
-      culprit = 0;
-      other = 0;
-    }
+refusedReport n p =
+    record { number = n; place = p; cleared = false; faulty = 0; marks = replicate 496 0; failing = 0; first = 0; second = 0; culprit = 0; other = 0 }
 
 -- "A refused step bound is 0."
 abbrev pub refusedBound : ℕ → ℕ → Bound

@@ -3,7 +3,7 @@ ghost use mathlib.Core.Path.{_≡_};
 ghost use Prim.Native.Nat.{suc, _<_, _≤_};
 ghost use lib.ListN.{length};
 ghost use Rattle.mask.specs.Search.{count, least};
-ghost use Rattle.graph.specs.Graph.{Edge};
+ghost use Rattle.graph.specs.GraphInner.{Edge};
 ghost use Rattle.analysis_pairs.specs.AnalysisPairsInner.{turnedOf, rulesIn, Mutual};
 ghost use Rattle.analysis_marks.specs.Index.{index};
 ghost use Rattle.analysis_marks.specs.Marks.{failsAt, FirstOf};

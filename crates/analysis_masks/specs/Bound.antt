@@ -15,5 +15,4 @@ pub record Bounded (m : Masks) (set : ℕ) (b : Bound) : Type 0 where
   pub place : b .place ≡ 255
   pub unfit : beyond set (m .n) ≡ true → (b .number ≡ 11) × (b .bound ≡ 0)
   pub endless : beyond set (m .n) ≡ false → (r : ℕ) → Faulty m r → (b .number ≡ 17) × (b .bound ≡ 0)
-  pub done : beyond set (m .n) ≡ false → ((r : ℕ) → Faulty m r → ⊥)
-      → (b .number ≡ 0) × (b .bound ≡ total 32 set (weightOf (triggers m) (m .n)))
+  pub done : beyond set (m .n) ≡ false → ((r : ℕ) → Faulty m r → ⊥) → (b .number ≡ 0) × (b .bound ≡ total 32 set (weightOf (triggers m) (m .n)))

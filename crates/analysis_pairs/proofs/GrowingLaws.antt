@@ -13,7 +13,7 @@ use Rattle.mask.proofs.SearchLaws.{Found, some-intro, some-elim, or-true-cases,
 use Rattle.mask.specs.Mask.{has, meet}
 use Rattle.mask.proofs.BitsLaws.{has-lt}
 use Rattle.mask.proofs.MaskLaws.{subset-le}
-use Rattle.graph.specs.Graph.{Edge}
+use Rattle.graph.specs.GraphInner.{Edge}
 use Rattle.analysis_pairs.specs.Rules.{first, second, grow}
 use Rattle.analysis_pairs.specs.AnalysisPairsInner.{grows, RowsGrown, Grew}
 

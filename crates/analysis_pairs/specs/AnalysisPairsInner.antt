@@ -11,7 +11,7 @@ use Rattle.analysis_pairs.specs.declared.Masks.{Masks}
 use Rattle.analysis_pairs.specs.RuleMasks.{commute, triggers, masksBy}
 use mathlib.Core.Logic.{_↔_}
 use Rattle.mask.specs.Search.{some}
-use Rattle.graph.specs.Graph.{Edge}
+use Rattle.graph.specs.GraphInner.{Edge}
 use Rattle.analysis_pairs.specs.Rules.{Grown, first, second, Rules, Passes, Culprits}
 
 -- v is what r watches, reads or writes

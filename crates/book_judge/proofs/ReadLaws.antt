@@ -23,7 +23,8 @@ use Rattle.table.specs.BodyStarts.{bodySize}
 use Rattle.table.proofs.SoundLaws.{sized, none-first, first-is}
 use Rattle.table.proofs.TableSlotLaws.{empty-slot}
 use Rattle.book_judge.specs.Read.{Reading, lengthOf, headBad, contentsBad, tableIn, numberIn, firstIn}
-use Rattle.book_judge.specs.Read.{refusal, taken, readAnswers, readOf}
+use Rattle.book_judge.specs.Read.{refusal, readAnswers, readOf}
+use Rattle.book_judge.specs.BookJudgeInner.{taken}
 use Rattle.book_judge.specs.BookJudgeInner.{nOf, kOf, bodyIn, bodyBad, bodiesOf}
 
 -- ---- a rule's number, as the reader finds it

@@ -10,8 +10,9 @@ use Rattle.bytes.specs.Little.{byteAt}
 use Rattle.rule.specs.declared.Rule.{Rule}
 use Rattle.rule.specs.Numbers.{countsBad}
 use Rattle.rule_read.specs.RuleReadInner.{Room}
+use Rattle.table.specs.Table.{Table}
 use Rattle.table.specs.BodyStarts.{bodySize}
-use Rattle.book_judge.specs.Read.{Reading, startOf, lengthOf, ruleIn, tableIn, taken, readAnswers}
+use Rattle.book_judge.specs.Read.{Reading, startOf, lengthOf, ruleIn, tableIn, readAnswers}
 
 -- the numbers of rules and of cells
 abbrev pub nOf : List ℕ → ℕ
@@ -42,6 +43,10 @@ Stretch s at = Room s at (byteAt s (at + 8)) (byteAt s (at + 9)) (byteAt s (at +
 pub record GoodBodies (s : List ℕ) : Type 0 where
   pub inside : Inside s (nOf s)
   pub good : (i : ℕ) → i < nOf s → bodyBad s i ≡ false
+
+-- what reading gives that is done
+abbrev pub taken : Table → Reading
+taken t = record { number = 0; place = 255; table = t }
 
 -- what is left of reading after 1 to 4
 unfoldable pub bodiesOf : List ℕ → Reading

@@ -65,9 +65,6 @@ firstIn s = least (byteAt s 1) (λ i. notZero (numberIn s i))
 abbrev pub refusal : ℕ → ℕ → Reading
 refusal number place = record { number = number; place = place; table = noTable }
 
-abbrev pub taken : Table → Reading
-taken t = record { number = 0; place = 255; table = t }
-
 -- "Order: 1 to 4 for the whole book, then rule by rule 5 to 9, then 10."
 abbrev pub readAnswers : List ℕ → List (Bool × Reading)
 readAnswers s =
@@ -76,11 +73,10 @@ readAnswers s =
     ∷ (sizesBad (byteAt s 1) (byteAt s 2), refusal 3 255)
     ∷ (contentsBad s (byteAt s 1), refusal 4 255)
     ∷ (ltb (firstIn s) (byteAt s 1), refusal (numberIn s (firstIn s)) (firstIn s))
-    ∷ (cyclic (byteAt s 1) (precedesOf (tableIn s)), refusal 10 255)
-    ∷ []
+    ∷ (cyclic (byteAt s 1) (precedesOf (tableIn s)), refusal 10 255) ∷ []
 
 unfoldable pub readOf : List ℕ → Reading
-readOf s = firstOf (taken (tableIn s)) (readAnswers s)
+readOf s = firstOf (record { number = 0; place = 255; table = tableIn s }) (readAnswers s)
 
 -- the number and the place of a reading
 abbrev pub told : Reading → Answer

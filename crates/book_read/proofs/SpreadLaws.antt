@@ -20,7 +20,8 @@ use Rattle.rule.specs.Fill.{upto}
 use Rattle.rule.proofs.FillLaws.{getD-left}
 use Rattle.rule_read.specs.Parts.{testIn, assignIn, ruleOf}
 use Rattle.rule_read.specs.RuleReadInner.{Room}
-use Rattle.rule_write.specs.Pieces.{testBytes, testsBytes, assignBytes, assignsBytes, nameBytes, headBytes, ruleBytes, slotBytes}
+use Rattle.rule_write.specs.Pieces.{testBytes, testsBytes, assignBytes, assignsBytes, nameBytes, headBytes, ruleBytes}
+use Rattle.rule_write.specs.RuleWriteInner.{slotBytes}
 use Rattle.rule_write.proofs.LengthsLaws.{length-tests, length-assigns, length-name, length-head}
 use Rattle.rule_write.proofs.WriteBackLaws.{rule-stands, assigns-stand, name-stands}
 

@@ -4,7 +4,7 @@ ghost use mathlib.Core.List.{_++_};
 ghost use Prim.Native.Nat.{_+_, _-_, _*_, _≤_};
 ghost use lib.ListN.{length, take, drop, replicate};
 ghost use Rattle.bytes.specs.Put.{put};
-ghost use Rattle.rule_write.specs.Pieces.{slotBytes};
+ghost use Rattle.rule_write.specs.RuleWriteInner.{slotBytes};
 ghost use Rattle.table.specs.Memory.{tableBytes};
 ghost use Rattle.book_judge.specs.Read.{ruleIn, tableIn, readOf};
 ghost use Rattle.book_read.specs.Spread.{Spread};

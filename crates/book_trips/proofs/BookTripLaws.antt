@@ -11,7 +11,8 @@ use Rattle.table.specs.Table.{Table}
 use Rattle.table.specs.Memory.{HeldTable}
 use Rattle.table.specs.declared.Answer.{Answer}
 use Rattle.table.specs.Check.{checkOf, Sound}
-use Rattle.book_judge.specs.Read.{Reading, tableIn, taken, readOf}
+use Rattle.book_judge.specs.Read.{Reading, tableIn, readOf}
+use Rattle.book_judge.specs.BookJudgeInner.{taken}
 use Rattle.book_judge.proofs.ReadLaws.{read-done}
 use Rattle.book_write.specs.declared.Written.{Written}
 use Rattle.book_write.specs.Book.{bookOf}

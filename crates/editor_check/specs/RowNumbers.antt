@@ -21,8 +21,7 @@ abbrev pub rowAnswers : Masks → List (Bool × Answer)
 rowAnswers m =
     (ltb 32 (m .n), answer 3 255)
     ∷ (ltb (firstBeyond m) (m .n), answer 6 (firstBeyond m))
-    ∷ (cyclic (m .n) (m .precedes), answer 10 255)
-    ∷ []
+    ∷ (cyclic (m .n) (m .precedes), answer 10 255) ∷ []
 
 unfoldable pub checkRows : Masks → Answer
 checkRows m = firstOf done (rowAnswers m)

@@ -7,14 +7,10 @@ use lib.ListN.{getD}
 use Rattle.mask.specs.Search.{some}
 use Rattle.mask.specs.Mask.{has}
 
--- r leads straight to s
-abbrev pub Edge : List ℕ → ℕ → ℕ → Type 0
-Edge rows r s = has (getD rows r 0) s ≡ true
-
 -- r leads to s, directly or through others
 pub data Leads (rows : List ℕ) : ℕ → ℕ → Type 0 where
-  directly : {r s : ℕ} → Edge rows r s → Leads rows r s
-  through : {r t s : ℕ} → Edge rows r t → Leads rows t s → Leads rows r s
+  directly : {r s : ℕ} → has (getD rows r 0) s ≡ true → Leads rows r s
+  through : {r t s : ℕ} → has (getD rows r 0) t ≡ true → Leads rows t s → Leads rows r s
 
 -- whether r leads to s directly or through rules below k (Warshall's recurrence: one more rule may stand in between)
 unfoldable pub leads : List ℕ → ℕ → ℕ → ℕ → Bool

@@ -1,11 +1,14 @@
 -- What only contracts of inner functions of `graph` cite.
 use mathlib.Core.Path.{_≡_}
-use mathlib.Core.Bool.{_&&_, _||_}
+use mathlib.Core.Bool.{true, _&&_, _||_}
 use mathlib.Core.List.{List}
 use Prim.Native.Nat.{ℕ, _^_, _<_}
 use lib.ListN.{length, getD}
 use Rattle.mask.specs.Mask.{has}
-use Rattle.graph.specs.Graph.{Edge}
+
+-- r leads straight to s
+abbrev pub Edge : List ℕ → ℕ → ℕ → Type 0
+Edge rows r s = has (getD rows r 0) s ≡ true
 
 -- q is the row p, but that one more rule, k, may stand in between
 pub record Through (p : List ℕ) (k : ℕ) (q : List ℕ) : Type 0 where

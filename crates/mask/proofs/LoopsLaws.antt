@@ -2,7 +2,7 @@
 -- a union of sets, a union of rows.
 use mathlib.Core.Path.{_≡_, refl, sym, ap, ap₂, _∙_, subst}
 use mathlib.Core.Logic.{⊎-elim}
-use mathlib.Core.Bool.{Bool, true, false, not, _&&_, _||_, and-comm, or-false, or-assoc}
+use mathlib.Core.Bool.{Bool, true, false, not, _&&_, _||_, cond, and-comm, or-false, or-assoc}
 use mathlib.Core.List.{List}
 use Prim.Native.Nat.{ℕ, zero, suc, _+_, _*_, _^_, _≤_, _<_}
 use native.Mathlib.Nat.{le-antisymm, add-comm, one-mul, pow-suc, lt-irrefl, le-suc, le-trans, eq-or-lt-of-le, not-suc-le-zero}
@@ -13,7 +13,7 @@ use lib.ListN.{length, getD, set, length-set, List·getD-eq-default}
 use lib.Seq.{getD-set-same, getD-set-other}
 use borrow.Author.Count.{below-more}
 use borrow.Author.Tests.{lt-ltb, le-ltb, ltb-true, ltb-false, eq-eqb, ne-eqb}
-use Rattle.mask.specs.Search.{some, least, oneIf}
+use Rattle.mask.specs.Search.{some, least}
 use Rattle.mask.proofs.SearchLaws.{lt-or-ge, some-but, some-same, some-none, some-more, least-by, least-none}
 use Rattle.mask.specs.Mask.{has, maskOf}
 use Rattle.mask.proofs.BitsLaws.{has-zero, has-or, has-bit, ext}
@@ -165,21 +165,21 @@ unfolding maskOf
 maskOf-lt zero f = lit< tt
 maskOf-lt (suc n) f = pick (f n) (maskOf-lt n f)
   where
-    pick : (b : Bool) → maskOf n f < 2 ^ n → maskOf n f + oneIf b * 2 ^ n < 2 ^ suc n
+    pick : (b : Bool) → maskOf n f < 2 ^ n → maskOf n f + cond b (2 ^ n) 0 < 2 ^ suc n
     pick true h = omega (arith, pow-suc 2 n)
     pick false h = omega (arith, pow-suc 2 n)
 
-none : (a b : ℕ) → a + 0 * b ≡ a
-none a b = omega arith
+none : (a : ℕ) → a + 0 ≡ a
+none a = omega arith
 
 pub maskOf-picked : (n : ℕ) (f : ℕ → Bool) → Picked f n (maskOf n f)
 unfolding maskOf
 maskOf-picked zero f = picked-none f
-maskOf-picked (suc n) f = subst (λ (k : ℕ). Picked f k (maskOf n f + oneIf (f n) * 2 ^ n)) (add-one n) (pick (f n) refl (maskOf-picked n f))
+maskOf-picked (suc n) f = subst (λ (k : ℕ). Picked f k (maskOf n f + cond (f n) (2 ^ n) 0)) (add-one n) (pick (f n) refl (maskOf-picked n f))
   where
-    pick : (b : Bool) → f n ≡ b → Picked f n (maskOf n f) → Picked f (n + 1) (maskOf n f + oneIf b * 2 ^ n)
-    pick true e h = picked-take f n (maskOf n f) (maskOf n f + 1 * 2 ^ n) h e (λ k. ap (λ (x : ℕ). has x k) (add-comm (maskOf n f) (1 * 2 ^ n) ∙ sym (or-shifted-r 1 n (maskOf n f) (maskOf-lt n f))) ∙ has-or (maskOf n f) (1 * 2 ^ n) k ∙ ap (λ (b : Bool). has (maskOf n f) k || b) (ap (λ (x : ℕ). has x k) (one-mul (2 ^ n)) ∙ has-bit n k))
-    pick false e h = subst (Picked f (n + 1)) (sym (none (maskOf n f) (2 ^ n))) (picked-skip f n (maskOf n f) h e)
+    pick : (b : Bool) → f n ≡ b → Picked f n (maskOf n f) → Picked f (n + 1) (maskOf n f + cond b (2 ^ n) 0)
+    pick true e h = picked-take f n (maskOf n f) (maskOf n f + 2 ^ n) h e (λ k. ap (λ (x : ℕ). has (maskOf n f + x) k) (sym (one-mul (2 ^ n))) ∙ ap (λ (x : ℕ). has x k) (add-comm (maskOf n f) (1 * 2 ^ n) ∙ sym (or-shifted-r 1 n (maskOf n f) (maskOf-lt n f))) ∙ has-or (maskOf n f) (1 * 2 ^ n) k ∙ ap (λ (b : Bool). has (maskOf n f) k || b) (ap (λ (x : ℕ). has x k) (one-mul (2 ^ n)) ∙ has-bit n k))
+    pick false e h = subst (Picked f (n + 1)) (sym (none (maskOf n f))) (picked-skip f n (maskOf n f) h e)
 
 pub maskOf-unique : (n : ℕ) (f : ℕ → Bool) (m : ℕ) → m < 2 ^ n → ((i : ℕ) → i < n → has m i ≡ f i) → m ≡ maskOf n f
 maskOf-unique n f m l h = ext n m (maskOf n f) l (maskOf-lt n f) (λ i k. h i k ∙ sym (picked-all f n (maskOf n f) (maskOf-picked n f) i k))

@@ -11,7 +11,7 @@ use native.Mathlib.Omega.{arith}
 use lib.Arith.{lt-of-le-ne}
 use lib.Dec.{eqb, ltb}
 use borrow.Author.Tests.{lt-ltb, le-ltb, ltb-true, ltb-false, eq-eqb, ne-eqb}
-use Rattle.mask.specs.Search.{some, least, count, oneIf}
+use Rattle.mask.specs.Search.{some, least, count}
 
 -- ---- tests
 
@@ -227,6 +227,10 @@ least-same n f g h =
     d = least-is n f
 
 -- ---- how many
+
+-- what one number counts
+abbrev pub oneIf : Bool → ℕ
+oneIf b = cond b 1 0
 
 pub count-same : (n : ℕ) (f g : ℕ → Bool) → ((k : ℕ) → k < n → g k ≡ f k) → count n g ≡ count n f
 unfolding count

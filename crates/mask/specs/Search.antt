@@ -12,10 +12,7 @@ unfoldable pub least : ℕ → (ℕ → Bool) → ℕ
 least zero f = 0
 least (suc n) f = cond (f 0) 0 (suc (least n (λ i. f (suc i))))
 
-abbrev pub oneIf : Bool → ℕ
-oneIf b = cond b 1 0
-
 -- at how many numbers below n f holds
 unfoldable pub count : ℕ → (ℕ → Bool) → ℕ
 count zero f = 0
-count (suc n) f = count n f + oneIf (f n)
+count (suc n) f = count n f + cond (f n) 1 0

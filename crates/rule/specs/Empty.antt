@@ -13,14 +13,4 @@ noAssign = record { target = 0; operation = 0; a = 0; b = 0; k = pos 0; p = 0; q
 
 abbrev pub noRule : Rule
 noRule =
-    record {
-      watch = 0;
-      precedes = 0;
-      t = 0;
-      a = 0;
-      m = 0;
-      zero = 0;
-      tests = replicate 8 noTest;
-      assigns = replicate 8 noAssign;
-      name = replicate 16 0;
-    }
+    record { watch = 0; precedes = 0; t = 0; a = 0; m = 0; zero = 0; tests = replicate 8 noTest; assigns = replicate 8 noAssign; name = replicate 16 0 }

@@ -23,8 +23,7 @@ anyOut r cells = some (r .a) (λ j. outOfRange (valueOf (assignAt r j) cells))
 -- the first j targets hold their right sides, each "worked out from the amounts before the step"
 unfoldable pub storedBy : List Assign → List ℤ → ℕ → List ℤ
 storedBy xs before zero = before
-storedBy xs before (suc j) = set (storedBy xs before j) (getD xs j noAssign .target)
-    (valueOf (getD xs j noAssign) before)
+storedBy xs before (suc j) = let x = getD xs j noAssign in set (storedBy xs before j) (x .target) (valueOf x before)
 
 -- "all targets are stored together"
 abbrev pub stored : Rule → List ℤ → List ℤ

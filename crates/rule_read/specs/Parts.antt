@@ -29,14 +29,8 @@ nameIn s i m = filled 16 0 (λ j. byteAt s (i + j)) m
 -- assignments and m letters
 abbrev pub ruleOf : List ℕ → ℕ → ℕ → ℕ → ℕ → Rule
 ruleOf s i t a m =
-    record {
-      watch = u32At s i;
-      precedes = u32At s (i + 4);
-      t = byteAt s (i + 8);
-      a = byteAt s (i + 9);
-      m = byteAt s (i + 10);
-      zero = byteAt s (i + 11);
-      tests = filled 8 noTest (λ j. testIn s (i + 12 + 12 * j)) t;
-      assigns = filled 8 noAssign (λ j. assignIn s (i + 12 + 12 * t + 20 * j)) a;
-      name = nameIn s (i + 12 + 12 * t + 20 * a) m;
-    }
+    let count : ℕ → ℕ = λ j. byteAt s (i + j) in
+    let tests : List Test = filled 8 noTest (λ j. testIn s (i + 12 + 12 * j)) t in
+    let assigns : List Assign = filled 8 noAssign (λ j. assignIn s (i + 12 + 12 * t + 20 * j)) a in
+    let name : List ℕ = nameIn s (i + 12 + 12 * t + 20 * a) m in
+    record { watch = u32At s i; precedes = u32At s (i + 4); t = count 8; a = count 9; m = count 10; zero = count 11; tests = tests; assigns = assigns; name = name }

@@ -1,7 +1,7 @@
 -- One test and one right side, over the cells' amounts.
 use mathlib.Core.Bool.{Bool, false, not, cond, _||_}
-use mathlib.Core.List.{List}
-use Prim.Native.Nat.{ℕ, zero, suc}
+use mathlib.Core.List.{List, [], _∷_}
+use Prim.Native.Nat.{ℕ}
 use lib.ListN.{getD}
 use lib.IntN.{ℤ, pos, _+ℤ_, _-ℤ_, _*ℤ_}
 use lib.Signed.{ltZ, leZ, quotZ}
@@ -19,13 +19,7 @@ differs v w = ltZ v w || ltZ w v
 
 -- "comparison (0 equal, 1 unequal, 2 less, 3 at most, 4 more, 5 at least)"; an unknown one never holds
 unfoldable pub compares : ℕ → ℤ → ℤ → Bool
-compares zero v w = not (differs v w)
-compares (suc zero) v w = differs v w
-compares (suc (suc zero)) v w = ltZ v w
-compares (suc (suc (suc zero))) v w = leZ v w
-compares (suc (suc (suc (suc zero)))) v w = ltZ w v
-compares (suc (suc (suc (suc (suc zero))))) v w = leZ w v
-compares (suc (suc (suc (suc (suc (suc code)))))) v w = false
+compares code v w = getD (not (differs v w) ∷ differs v w ∷ ltZ v w ∷ leZ v w ∷ ltZ w v ∷ leZ w v ∷ []) code false
 
 -- "right kind (0 constant, 1 cell), right cell, constant"
 unfoldable pub holds : Test → List ℤ → Bool
@@ -37,12 +31,7 @@ scaled a p q = quotZ (a *ℤ pos p) (pos q)
 
 -- "0 gives K; 1 gives A + K; 2 gives A + B; 3 gives A - B; 4 gives A x p / q"; an unknown one gives 0
 unfoldable pub operated : ℕ → ℤ → ℤ → ℤ → ℕ → ℕ → ℤ
-operated zero a b k p q = k
-operated (suc zero) a b k p q = a +ℤ k
-operated (suc (suc zero)) a b k p q = a +ℤ b
-operated (suc (suc (suc zero))) a b k p q = a -ℤ b
-operated (suc (suc (suc (suc zero)))) a b k p q = scaled a p q
-operated (suc (suc (suc (suc (suc code))))) a b k p q = pos 0
+operated code a b k p q = getD (k ∷ (a +ℤ k) ∷ (a +ℤ b) ∷ (a -ℤ b) ∷ scaled a p q ∷ []) code (pos 0)
 
 -- a right side
 unfoldable pub valueOf : Assign → List ℤ → ℤ

@@ -18,7 +18,8 @@ use Rattle.rule.specs.Uses.{testAt, assignAt}
 use Rattle.rule.specs.Numbers.{notZero, notZeroZ, formsBad, ruleSlotBad, testFormBad, assignFormBad, testSlotBad, assignSlotBad}
 use Rattle.bytes.specs.Bytes.{u16Bytes, u32Bytes, u64Bytes, i64Bytes}
 use Rattle.bytes.specs.Joined.{joined}
-use Rattle.rule_write.specs.Pieces.{testBytes, testsBytes, assignBytes, assignsBytes, nameBytes, headBytes, ruleBytes, slotBytes}
+use Rattle.rule_write.specs.Pieces.{testBytes, testsBytes, assignBytes, assignsBytes, nameBytes, headBytes, ruleBytes}
+use Rattle.rule_write.specs.RuleWriteInner.{slotBytes}
 use Rattle.rule_write.specs.HeldRule.{HeldRule}
 use Rattle.rule_write.proofs.HeldRuleLaws.{EmptyPast}
 use Rattle.rule_write.proofs.RowsBytesLaws.{slots-are}

@@ -1,3 +1,4 @@
 -- What the contracts of `rule_write` cite.
 pub mod HeldRule
 pub mod Pieces
+pub mod RuleWriteInner

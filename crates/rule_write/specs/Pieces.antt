@@ -42,7 +42,3 @@ ruleBytes r t a m = headBytes r ++ testsBytes (r .tests) t ++ assignsBytes (r .a
 -- a body, with room by its own counts: "Its length is 12 + 12t + 20a + m."
 abbrev pub bodyBytes : Rule → List ℕ
 bodyBytes r = ruleBytes r (r .t) (r .a) (r .m)
-
--- a whole slot
-abbrev pub slotBytes : Rule → List ℕ
-slotBytes r = ruleBytes r 8 8 16

@@ -8,7 +8,7 @@ use Rattle.bytes.specs.Joined.{joined}
 use Rattle.bytes.proofs.JoinedLaws.{length-joined}
 use Rattle.rule.specs.declared.Rule.{Rule}
 use Rattle.rule.specs.Empty.{noRule}
-use Rattle.rule_write.specs.Pieces.{slotBytes}
+use Rattle.rule_write.specs.RuleWriteInner.{slotBytes}
 use Rattle.rule_write.proofs.LengthsLaws.{length-rule}
 use Rattle.table.specs.Table.{Table}
 use Rattle.table.specs.Memory.{tableBytes}

@@ -18,7 +18,7 @@ use Rattle.bytes.proofs.StandsLaws.{Stands}
 use Rattle.bytes.specs.EachByte.{Bytes}
 use Rattle.rule.specs.Empty.{noRule}
 use Rattle.rule.specs.Numbers.{notZero, formsBad, ruleSlotBad}
-use Rattle.rule_write.specs.Pieces.{slotBytes}
+use Rattle.rule_write.specs.RuleWriteInner.{slotBytes}
 use Rattle.rule_write.specs.HeldRule.{HeldRule}
 use Rattle.rule_write.proofs.HeldLaws.{none-held}
 use Rattle.rule_write.proofs.ReadBackLaws.{rule-read}

@@ -11,7 +11,7 @@ use Rattle.bytes.specs.EachByte.{Bytes}
 use Rattle.rule.specs.declared.Rule.{Rule}
 use Rattle.rule.specs.Empty.{noRule}
 use Rattle.rule_read.specs.Parts.{ruleOf}
-use Rattle.rule_write.specs.Pieces.{slotBytes}
+use Rattle.rule_write.specs.RuleWriteInner.{slotBytes}
 use Rattle.rule_write.proofs.LengthsLaws.{length-rule}
 use Rattle.rule_write.proofs.HeldRuleLaws.{EmptyPast}
 use Rattle.rule_write.proofs.RowsBytesLaws.{rows-read, rows-stand}

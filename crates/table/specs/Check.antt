@@ -41,8 +41,7 @@ checkAnswers t =
     (sizesBad (t .n) (t .k), answer 3 255)
     ∷ (ltb (firstBad t) (t .n), answer (numberAt t (firstBad t)) (firstBad t))
     ∷ (ltb (firstSlot t) 32, answer 7 (firstSlot t))
-    ∷ (cyclic (t .n) (precedesOf t), answer 10 255)
-    ∷ []
+    ∷ (cyclic (t .n) (precedesOf t), answer 10 255) ∷ []
 
 unfoldable pub checkOf : Table → Answer
 checkOf t = firstOf done (checkAnswers t)

@@ -8,7 +8,7 @@ use Rattle.bytes.specs.Little.{byteAt}
 use Rattle.bytes.specs.Joined.{joined}
 use Rattle.rule.specs.Fill.{upto}
 use Rattle.rule_read.specs.Parts.{ruleOf}
-use Rattle.rule_write.specs.Pieces.{slotBytes}
+use Rattle.rule_write.specs.Pieces.{ruleBytes}
 use Rattle.rule_write.specs.HeldRule.{HeldRule}
 use Rattle.table.specs.Table.{Table, ruleAt}
 
@@ -18,7 +18,7 @@ tableFrom s = record { n = byteAt s 1; k = byteAt s 2; rules = upto 32 (λ i. ru
 
 -- the bytes of a table
 unfoldable pub tableBytes : Table → List ℕ
-tableBytes t = (0 ∷ t .n ∷ t .k ∷ 0 ∷ []) ++ joined 32 (λ i. slotBytes (ruleAt t i))
+tableBytes t = (0 ∷ t .n ∷ t .k ∷ 0 ∷ []) ++ joined 32 (λ i. ruleBytes (ruleAt t i) 8 8 16)
 
 -- a table as memory holds it: 32 rules, each as memory holds it
 pub record HeldTable (t : Table) : Type 0 where

@@ -6,7 +6,8 @@ use Prim.Native.Nat.{ℕ, _≤_, _-_, _+_}
 use native.Mathlib.Nat.{add-zero, le-antisymm}
 use native.Mathlib.Omega.{arith}
 use borrow.Author.Tests.{eq-eqb, ne-eqb}
-use Rattle.mask.specs.Search.{count, oneIf}
+use Rattle.mask.specs.Search.{count}
+use Rattle.mask.proofs.SearchLaws.{oneIf}
 use Rattle.mask.proofs.SearchLaws.{count-max}
 use Rattle.analysis_marks.proofs.CountsLaws.{count-more}
 use Rattle.analysis_marks.specs.Marks.{failsAt}

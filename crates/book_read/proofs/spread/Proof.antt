@@ -11,7 +11,7 @@ use Rattle.bytes.proofs.JoinedLaws.{put-joined, joined-rest}
 use Rattle.rule.specs.declared.Rule.{Rule}
 use Rattle.rule.specs.Empty.{noRule}
 use Rattle.rule.proofs.FillLaws.{getD-left}
-use Rattle.rule_write.specs.Pieces.{slotBytes}
+use Rattle.rule_write.specs.RuleWriteInner.{slotBytes}
 use Rattle.table.specs.Memory.{tableBytes}
 use Rattle.table.proofs.MemoryLaws.{rulesBytes, length-rules, length-table}
 use Rattle.book_judge.specs.Read.{ruleIn, tableIn}
