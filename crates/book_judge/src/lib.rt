@@ -22,6 +22,14 @@ pub fn start(s: &[u8], i: usize) -> usize
     wide(bytes::u16_at(s, 4 + 4 * i))
 }
 
+// How long body i is said to be.
+fn size(s: &[u8], i: usize) -> usize
+    requires { ⌜ (i < 32) × (8 + 4 * i ≤ length (now s)) ⌝ }
+    ensures { λ r. ⌜ (r ≡ lengthOf (now (s .entry)) i) × (r < 65536) ⌝ }
+{
+    wide(bytes::u16_at(s, 6 + 4 * i))
+}
+
 // 4: whether the contents do not fit the book.
 fn contents_bad(s: &[u8], n: usize) -> bool
     requires { ⌜ n ≤ 32 ⌝ }
@@ -33,9 +41,8 @@ fn contents_bad(s: &[u8], n: usize) -> bool
     let mut end: usize = 4 + 4 * n;
     let mut bad = false;
     for i in 0..n {
-        let start = wide(bytes::u16_at(s, 4 + 4 * i));
-        bad = (start != end) | bad;
-        end = end + wide(bytes::u16_at(s, 6 + 4 * i));
+        bad = (start(s, i) != end) | bad;
+        end = end + size(s, i);
     }
     bad | (end != s.len())
 }
@@ -46,15 +53,12 @@ fn body_bad(s: &[u8], i: usize) -> bool
     ensures { λ r. ⌜ r ≡ bodyBad (now (s .entry)) i ⌝ }
 {
     let at = start(s, i);
-    let len = wide(bytes::u16_at(s, 6 + 4 * i));
+    let len = size(s, i);
     if len < 12 {
         return true;
     }
-    let t = rule::count(s[at + 8]);
-    let a = rule::count(s[at + 9]);
-    let m = rule::count(s[at + 10]);
-    let z = s[at + 11];
-    (8 < t) | (8 < a) | (m < 1) | (16 < m) | (z != 0) | (len != 12 + 12 * t + 20 * a + m)
+    let c = rule_read::counts_at(s, at);
+    rule_check::counts_bad(s, at) | (len != 12 + 12 * c.tests + 20 * c.assigns + c.letters)
 }
 
 fn refused(number: u8, place: u8) -> Answer
@@ -71,10 +75,8 @@ fn name_of(s: &[u8], at: usize) -> [u8; 16]
     requires { ⌜ Stretch (now s) at ⌝ }
     ensures { λ r. ⌜ r ≡ ruleIn (now (s .entry)) at .name ⌝ }
 {
-    let t = rule::count(s[at + 8]);
-    let a = rule::count(s[at + 9]);
-    let m = rule::count(s[at + 10]);
-    rule_read::read_name(s, at + 12 + 12 * t + 20 * a, m)
+    let c = rule_read::counts_at(s, at);
+    rule_read::read_name(s, at + 12 + 12 * c.tests + 20 * c.assigns, c.letters)
 }
 
 // Its number, where it is known whether an earlier rule has its name.
@@ -82,10 +84,8 @@ fn number_of(s: &[u8], at: usize, n: u8, k: u8, taken: bool) -> u8
     requires { ⌜ Stretch (now s) at × (n ≤ 32) × (k ≤ 32) ⌝ }
     ensures { λ x. ⌜ x ≡ numberWith n k taken (ruleIn (now (s .entry)) at) ⌝ }
 {
-    let t = rule::count(s[at + 8]);
-    let a = rule::count(s[at + 9]);
-    let m = rule::count(s[at + 10]);
-    rule_check::number_in(s, at, t, a, m, n, k, taken)
+    let c = rule_read::counts_at(s, at);
+    rule_check::number_in(s, at, c.tests, c.assigns, c.letters, n, k, taken)
 }
 
 // The bodies one after another, each with its numbers, then 10.

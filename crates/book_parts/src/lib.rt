@@ -2,7 +2,7 @@
 ghost use mathlib.Core.Path.{_≡_};
 ghost use mathlib.Core.List.{_++_};
 ghost use Prim.Native.Nat.{_+_, _*_, _≤_, _<_};
-ghost use lib.ListN.{length, take, drop};
+ghost use lib.ListN.{length};
 ghost use Rattle.bytes.specs.Put.{put};
 ghost use Rattle.bytes.specs.Bytes.{u16Bytes};
 ghost use Rattle.rule_write.specs.Pieces.{bodyBytes};
@@ -17,8 +17,8 @@ fn body_size(s: &[u8], i: usize) -> usize
     requires { ⌜ (i < 32) × (length (now s) ≡ 9092) ⌝ }
     ensures { λ n. ⌜ (n ≡ bodySize (ruleFrom (now (s .entry)) i)) × (n ≤ 8427) ⌝ }
 {
-    let at = 4 + 284 * i;
-    12 + 12 * rule::count(s[at + 8]) + 20 * rule::count(s[at + 9]) + rule::count(s[at + 10])
+    let c = rule_read::counts_at(s, 4 + 284 * i);
+    12 + 12 * c.tests + 20 * c.assigns + c.letters
 }
 
 // Where the last of n bodies ends.
@@ -53,27 +53,19 @@ pub fn write_contents(out: &mut [u8], s: &[u8], n: usize)
     }
 }
 
-// The n bytes of s from `from` on.
-fn write_part(out: &mut [u8], at: usize, s: &[u8], from: usize, n: usize)
-    requires { ⌜ (at + n ≤ length (now out)) × (from + n ≤ length (now s)) ⌝ }
-    ensures { λ _. ⌜ now (out .exit) ≡ put (now (out .entry)) at (take n (drop from (now (s .entry)))) ⌝ }
-{
-    let end = from + n;
-    bytes::put_bytes(out, at, &s[from..end]);
-}
-
 // The body of rule i: the beginnings of its slot's three parts, one after another.
 fn write_body(out: &mut [u8], at: usize, s: &[u8], i: usize)
     requires { ⌜ Counted (ruleFrom (now s) i) × (i < 32) × (length (now s) ≡ 9092) × (at + bodySize (ruleFrom (now s) i) ≤ length (now out)) ⌝ }
     ensures { λ _. ⌜ now (out .exit) ≡ put (now (out .entry)) at (bodyBytes (ruleFrom (now (s .entry)) i)) ⌝ }
 {
     let from = 4 + 284 * i;
-    let t = rule::count(s[from + 8]);
-    let a = rule::count(s[from + 9]);
-    let m = rule::count(s[from + 10]);
-    write_part(out, at, s, from, 12 + 12 * t);
-    write_part(out, at + 12 + 12 * t, s, from + 108, 20 * a);
-    write_part(out, at + 12 + 12 * t + 20 * a, s, from + 268, m);
+    let c = rule_read::counts_at(s, from);
+    let t = c.tests;
+    let a = c.assigns;
+    let m = c.letters;
+    bytes::put_part(out, at, s, from, 12 + 12 * t);
+    bytes::put_part(out, at + 12 + 12 * t, s, from + 108, 20 * a);
+    bytes::put_part(out, at + 12 + 12 * t + 20 * a, s, from + 268, m);
 }
 
 pub fn write_bodies(out: &mut [u8], s: &[u8], n: usize)

@@ -12,12 +12,11 @@ ghost use Rattle.book_judge.specs.BookJudgeInner.{Stretch, GoodBodies};
 use table::Answer;
 
 // The n bytes of s from `from` on, and zeros up to the room.
-fn put_part(out: &mut [u8], to: usize, s: &[u8], from: usize, n: usize, room: usize)
+fn put_padded(out: &mut [u8], to: usize, s: &[u8], from: usize, n: usize, room: usize)
     requires { ⌜ (n ≤ room) × (to + room ≤ length (now out)) × (from + n ≤ length (now s)) ⌝ }
     ensures { λ _. ⌜ now (out .exit) ≡ put (now (out .entry)) to (take n (drop from (now (s .entry))) ++ replicate (room - n) 0) ⌝ }
 {
-    let end = from + n;
-    bytes::put_bytes(out, to, &s[from..end]);
+    bytes::put_part(out, to, s, from, n);
     bytes::put_zeros(out, to + n, room - n);
 }
 
@@ -26,12 +25,13 @@ fn put_body(out: &mut [u8], to: usize, s: &[u8], from: usize)
     requires { ⌜ Stretch (now s) from × (to + 284 ≤ length (now out)) ⌝ }
     ensures { λ _. ⌜ now (out .exit) ≡ put (now (out .entry)) to (slotBytes (ruleIn (now (s .entry)) from)) ⌝ }
 {
-    let t = rule::count(s[from + 8]);
-    let a = rule::count(s[from + 9]);
-    let m = rule::count(s[from + 10]);
-    put_part(out, to, s, from, 12 + 12 * t, 108);
-    put_part(out, to + 108, s, from + 12 + 12 * t, 20 * a, 160);
-    put_part(out, to + 268, s, from + 12 + 12 * t + 20 * a, m, 16);
+    let c = rule_read::counts_at(s, from);
+    let t = c.tests;
+    let a = c.assigns;
+    let m = c.letters;
+    put_padded(out, to, s, from, 12 + 12 * t, 108);
+    put_padded(out, to + 108, s, from + 12 + 12 * t, 20 * a, 160);
+    put_padded(out, to + 268, s, from + 12 + 12 * t + 20 * a, m, 16);
 }
 
 // The table of a book that was read.

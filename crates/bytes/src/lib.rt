@@ -2,7 +2,7 @@
 ghost use mathlib.Core.Path.{_≡_};
 ghost use mathlib.Core.List.{[], _∷_};
 ghost use Prim.Native.Nat.{_+_, _≤_, _<_};
-ghost use lib.ListN.{length, replicate};
+ghost use lib.ListN.{length, take, drop, replicate};
 ghost use Rattle.bytes.specs.Little.{u16At, u32At, u64At, i64At, signed};
 ghost use Rattle.bytes.specs.Put.{put};
 ghost use Rattle.bytes.specs.Bytes.{u16Bytes, u32Bytes, u64Bytes, i64Bytes, unsigned};
@@ -119,6 +119,15 @@ pub fn put_bytes(out: &mut [u8], at: usize, s: &[u8])
     for j in 0..s.len() {
         out[at + j] = s[j];
     }
+}
+
+// The n bytes of s from `from` on.
+pub fn put_part(out: &mut [u8], at: usize, s: &[u8], from: usize, n: usize)
+    requires { ⌜ (at + n ≤ length (now out)) × (from + n ≤ length (now s)) ⌝ }
+    ensures { λ _. ⌜ now (out .exit) ≡ put (now (out .entry)) at (take n (drop from (now (s .entry)))) ⌝ }
+{
+    let end = from + n;
+    put_bytes(out, at, &s[from..end]);
 }
 
 // n zeros.

@@ -1,18 +1,8 @@
 // The masks of a book that was read, from its bodies where they lie: no table is made of it.
 ghost use mathlib.Core.Path.{_≡_};
-ghost use Prim.Native.Nat.{_+_, _*_, _≤_};
-ghost use lib.ListN.{length};
-ghost use Rattle.book_judge.specs.Read.{startOf, tableIn, readOf};
+ghost use Rattle.book_judge.specs.Read.{tableIn, readOf};
 ghost use Rattle.analysis.specs.TableMasks.{masksOf};
 use analysis_pairs::Masks;
-
-// Where body i begins.
-fn start(book: &[u8], i: usize) -> usize
-    requires { ⌜ 8 + 4 * i ≤ length (now book) ⌝ }
-    ensures { λ r. ⌜ r ≡ startOf (now (book .entry)) i ⌝ }
-{
-    bytes::u16_at(book, 4 + 4 * i) as usize
-}
 
 // The four rows of masks.
 pub fn taken(book: &[u8]) -> Masks
@@ -25,9 +15,10 @@ pub fn taken(book: &[u8]) -> Masks
     let mut writes = [0u32; 32];
     let mut precedes = [0u32; 32];
     for i in 0..n {
-        let at = start(book, i);
-        let t = rule::count(book[at + 8]);
-        let a = rule::count(book[at + 9]);
+        let at = book_judge::start(book, i);
+        let c = rule_read::counts_at(book, at);
+        let t = c.tests;
+        let a = c.assigns;
         watch[i] = bytes::u32_at(book, at);
         reads[i] = rule_uses::reads(book, at, t, a);
         writes[i] = rule_uses::writes(book, at, t, a);

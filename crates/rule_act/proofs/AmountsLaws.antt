@@ -120,8 +120,7 @@ module _ (xs : List Assign) (before : List ℤ) where
   unfolding storedBy
   length-stored zero = refl
   length-stored (suc j) =
-      length-set (storedBy xs before j) (getD xs j noAssign .target) (valueOf (getD xs j noAssign) before)
-      ∙ length-stored j
+      length-set (storedBy xs before j) (getD xs j noAssign .target) _ ∙ length-stored j
 
   -- one assignment more
   pub stored-more : (j c : ℕ) → c < length before

@@ -22,7 +22,8 @@ pub fn taken(names: &[u64; 64], i: usize, low: u64, high: u64) -> bool
     found
 }
 
-fn counts_bad(s: &[u8], at: usize) -> bool
+// 5 of the rule whose head is at `at`.
+pub fn counts_bad(s: &[u8], at: usize) -> bool
     requires { ⌜ at + 12 ≤ length (now s) ⌝ }
     ensures { λ r. ⌜ r ≡ countsBad (ruleOf (now (s .entry)) at 0 0 0) ⌝ }
 {

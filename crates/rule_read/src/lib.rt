@@ -1,12 +1,19 @@
-// Reads one test, one assignment, a name, a count or a row of masks out of bytes.
+// Reads one test, one assignment, a name, counts or a row of masks out of bytes.
 ghost use mathlib.Core.Path.{_≡_};
 ghost use Prim.Native.Nat.{ℕ, _+_, _*_, _≤_, _<_};
 ghost use lib.ListN.{length};
 ghost use Rattle.bytes.specs.Little.{byteAt};
-ghost use Rattle.rule_read.specs.RuleReadInner.{columnIn};
+ghost use Rattle.rule_read.specs.RuleReadInner.{columnIn, CountsAt};
 ghost use Rattle.rule_read.specs.Parts.{testIn, assignIn, nameIn};
 use rule::Assign;
 use rule::Test;
+
+// How many tests, assignments and letters a rule has.
+pub struct Counts {
+    pub tests: usize,
+    pub assigns: usize,
+    pub letters: usize,
+}
 
 pub fn read_test(s: &[u8], at: usize) -> Test
     requires { ⌜ at + 12 ≤ length (now s) ⌝ }
@@ -57,6 +64,21 @@ pub fn count_at(s: &[u8], at: usize) -> usize
     ensures { λ r. ⌜ r ≡ byteAt (now (s .entry)) at ⌝ }
 {
     rule::count(s[at])
+}
+
+// The counts of the rule whose head is at `at`.
+pub fn counts_at(s: &[u8], at: usize) -> Counts
+    requires { ⌜ at + 12 ≤ length (now s) ⌝ }
+    ensures { λ c. ⌜ CountsAt (now (s .entry)) at c ⌝ }
+{
+    let t = rule::count(s[at + 8]);
+    let a = rule::count(s[at + 9]);
+    let m = rule::count(s[at + 10]);
+    Counts {
+        tests: t,
+        assigns: a,
+        letters: m,
+    }
 }
 
 // The masks that stand at `at` and every `step` bytes after it, n of them; 0 past them.

@@ -14,51 +14,29 @@ use Rattle.book_judge.proofs.body_bad.Tie as tie
 returns : tie.Need-returns
 unfolding bodyBad
 returns c =
-    let a = c .before .before .before .before .before .args in
+    let a = c .before .before .before .before .args in
     let r = bodyIn (a .s .now) (a .i) in
     sym (ap (λ (b : Bool). countsBad r || not b)
-    (ne-eqb (lengthOf (a .s .now) (a .i)) (bodySize r) (λ e. omega (arith, c .before .wide .ensures .0, c .before .before .u16-at .ensures)))
+    (ne-eqb (lengthOf (a .s .now) (a .i)) (bodySize r) (λ e. omega (arith, c .before .size .ensures .0)))
     ∙ or-true (countsBad r))
 
 returns-2 : tie.Need-returns-2
 unfolding bodyBad countsBad
 returns-2 c =
-    let w1 = c .before .before .before .before .before in
-    let l2 = w1 .before .before .before in
-    let l1 = l2 .before .before in
+    let k = c .before .before .before in
+    let n = k .before .counts-at .ensures in
+    let w = k .before .before .before in
     rw (
-      c .before .count3 .ensures .0,
-      c .before .before .before .count2 .ensures .0,
-      w1 .count .ensures .0,
-      l2 .wide .ensures .0,
-      l2 .before .u16-at .ensures,
-      l1 .start .ensures .0,
+      k .counts-bad .ensures,
+      n .tests,
+      n .assigns,
+      n .letters,
+      w .size .ensures .0,
+      w .before .start .ensures .0,
     )
 
 pub body-bad-spec : {M : Type 1} → statement M
 body-bad-spec =
     tie.close
-    (tie.spec
-    (λ c κs. search needs)
-    (λ c. search needs)
-    (λ c. search needs)
-    (λ c κs. search needs)
-    (λ c κs. search needs)
-    returns
-    (λ c. search needs)
-    (λ c. search needs)
-    (λ c κs. search needs)
-    (λ c. search needs)
-    (λ c. search needs)
-    (λ c κs. search needs)
-    (λ c. search needs)
-    (λ c. search needs)
-    (λ c κs. search needs)
-    (λ c. search needs)
-    (λ c. search needs)
-    (λ c. search needs)
-    (λ c. search needs)
-    (λ c. search needs)
-    (λ c. search needs)
-    (λ c. search needs)
-    returns-2)
+    (tie.spec (λ c κs. search needs) (λ c κs. search needs) returns (λ c κs. search needs) (λ c κs. search needs)
+    (λ c. search needs) (λ c. search needs) (λ c. search needs) (λ c. search needs) (λ c. search needs) returns-2)

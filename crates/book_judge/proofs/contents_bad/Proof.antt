@@ -31,13 +31,11 @@ loop-holds c = (search needs, refl, search needs, sought-none)
 
 loop-again : tie.Need-loop-again Inv-loop μ-loop
 loop-again c =
-    let d = c .before .before in
-    let l = d .before .before .before .loop in (
+    let l = c .before .before .before .loop in (
       search needs,
-      rw (start-more, l .inv .1, c .wide2 .ensures .0, c .before .u16-at2 .ensures),
+      rw (start-more, l .inv .1, c .size .ensures .0),
       search needs,
-      sought-more (l .inv .3)
-          (ap₂ (λ (x y : ℕ). not (eqb x y)) (d .wide .ensures .0 ∙ d .before .u16-at .ensures) (l .inv .1)),
+      sought-more (l .inv .3) (ap₂ (λ (x y : ℕ). not (eqb x y)) (c .before .start .ensures .0) (l .inv .1)),
     )
 
 returns-2 : tie.Need-returns-2 Inv-loop μ-loop
@@ -51,25 +49,5 @@ returns-2 c =
 pub contents-bad-spec : {M : Type 1} → statement M
 contents-bad-spec =
     tie.close
-    (tie.spec
-    Inv-loop
-    μ-loop
-    (λ c. search needs)
-    (λ c. search needs)
-    returns
-    (λ c. search needs)
-    (λ c. search needs)
-    loop-holds
-    (λ c. search needs)
-    (λ c. search needs)
-    (λ c κs. search needs)
-    (λ c κs. search needs)
-    (λ c. search needs)
-    (λ c. search needs)
-    (λ c κs. search needs)
-    (λ c κs. search needs)
-    (λ c. search needs)
-    (λ c. search needs)
-    (λ c. search needs)
-    loop-again
-    returns-2)
+    (tie.spec Inv-loop μ-loop (λ c. search needs) (λ c. search needs) returns (λ c. search needs) (λ c. search needs) loop-holds
+    (λ c κs. search needs) (λ c κs. search needs) (λ c. search needs) (λ c. search needs) (λ c. search needs) loop-again returns-2)

@@ -5,30 +5,11 @@ use Rattle.book_judge.proofs.name_of.Tie as tie
 
 returns : tie.Need-returns
 returns c =
-    rw (
-      c .read-name .ensures,
-      c .before .count3 .ensures .0,
-      c .before .before .before .count2 .ensures .0,
-      c .before .before .before .before .before .count .ensures .0,
-    )
+    let n = c .before .before .before .counts-at .ensures in
+    rw (c .read-name .ensures, n .tests, n .assigns, n .letters)
 
 pub name-of-spec : {M : Type 1} → statement M
 name-of-spec =
     tie.close
-    (tie.spec
-    (λ c. search needs)
-    (λ c. search needs)
-    (λ c κs. search needs)
-    (λ c. search needs)
-    (λ c. search needs)
-    (λ c κs. search needs)
-    (λ c. search needs)
-    (λ c. search needs)
-    (λ c κs. search needs)
-    (λ c. search needs)
-    (λ c. search needs)
-    (λ c. search needs)
-    (λ c. search needs)
-    (λ c. search needs)
-    (λ c κs. search needs)
-    returns)
+    (tie.spec (λ c κs. search needs) (λ c. search needs) (λ c. search needs) (λ c. search needs) (λ c. search needs) (λ c. search needs)
+    (λ c κs. search needs) returns)

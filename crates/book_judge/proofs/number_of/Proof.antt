@@ -6,34 +6,14 @@ use Rattle.book_judge.proofs.number_of.Tie as tie
 
 number-in-requires : tie.Need-number-in-requires
 number-in-requires c κs =
-    let a = c .before .before .before .before .before .before .before in (
-      rw (c .count3 .ensures .0, c .before .before .count2 .ensures .0, c .before .before .before .before .count .ensures .0)
-          (stretch-lies (a .args .s .now) (a .args .at) (a .pre .0)),
-      a .pre .1,
-      a .pre .2,
-    )
+    let a = c .before .before in
+    let n = c .counts-at .ensures in
+    (rw (n .tests, n .assigns, n .letters) (stretch-lies (a .args .s .now) (a .args .at) (a .pre .0)), a .pre .1, a .pre .2)
 
 returns : tie.Need-returns
 returns c =
-    rw (
-      c .number-in .ensures,
-      c .before .count3 .ensures .0,
-      c .before .before .before .count2 .ensures .0,
-      c .before .before .before .before .before .count .ensures .0,
-    )
+    let n = c .before .counts-at .ensures in
+    rw (c .number-in .ensures, n .tests, n .assigns, n .letters)
 
 pub number-of-spec : {M : Type 1} → statement M
-number-of-spec =
-    tie.close
-    (tie.spec
-    (λ c. search needs)
-    (λ c. search needs)
-    (λ c κs. search needs)
-    (λ c. search needs)
-    (λ c. search needs)
-    (λ c κs. search needs)
-    (λ c. search needs)
-    (λ c. search needs)
-    (λ c κs. search needs)
-    number-in-requires
-    returns)
+number-of-spec = tie.close (tie.spec (λ c κs. search needs) number-in-requires returns)

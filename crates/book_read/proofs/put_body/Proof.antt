@@ -13,48 +13,22 @@ returns c =
     let p3 = c .before .before in
     let p2 = p3 .before .before .before .before in
     let p1 = p2 .before .before .before .before in
-    let n3 = p1 .before .before in
-    let n2 = n3 .before .before in
-    let n1 = n2 .before .before in
-    let k = n1 .before .before .before .before in
-    let s = k .args .s .now in
-    let t = n1 .count .result in
-    let a = n2 .count2 .result in
-    let m = n3 .count3 .result in
-    let b : Bytes s = record { small = λ j. omega (arith, n1 .before .before .shared-slice-known .given j) } in
-    let room : Room s (k .args .from) t a m = rw (n3 .count3 .ensures .0, n2 .count2 .ensures .0, n1 .count .ensures .0) (k .pre .0) in
-    put-slot s b (k .args .from) t a m room (k .args .out .now) (k .args .to) (k .pre .1)
-    (p1 .put-part .ensures) (p2 .put-part2 .ensures) (p3 .put-part3 .ensures)
-    ∙ rw (n3 .count3 .ensures .0, n2 .count2 .ensures .0, n1 .count .ensures .0)
+    let k = p1 .before .before in
+    let z = k .before .before .before in
+    let s = z .args .s .now in
+    let r = k .counts-at .result in
+    let n = k .counts-at .ensures in
+    let b : Bytes s = record { small = λ j. omega (arith, k .before .shared-slice-known .given j) } in
+    let room : Room s (z .args .from) (r .tests) (r .assigns) (r .letters) = rw (n .tests, n .assigns, n .letters) (z .pre .0) in
+    put-slot s b (z .args .from) (r .tests) (r .assigns) (r .letters) room (z .args .out .now) (z .args .to) (z .pre .1)
+    (p1 .put-padded .ensures) (p2 .put-padded2 .ensures) (p3 .put-padded3 .ensures)
+    ∙ rw (n .tests, n .assigns, n .letters)
 
 pub put-body-spec : {M : Type 1} → statement M
 put-body-spec =
     tie.close
-    (tie.spec
-    (λ c. search needs)
-    (λ c. search needs)
-    (λ c κs. search needs)
-    (λ c. search needs)
-    (λ c. search needs)
-    (λ c κs. search needs)
-    (λ c. search needs)
-    (λ c. search needs)
-    (λ c κs. search needs)
-    (λ c. search needs)
-    (λ c. search needs)
-    (λ c κs. search needs)
-    (λ c. search needs)
-    (λ c. search needs)
-    (λ c. search needs)
-    (λ c. search needs)
-    (λ c. search needs)
-    (λ c κs. search needs)
-    (λ c. search needs)
-    (λ c. search needs)
-    (λ c. search needs)
-    (λ c. search needs)
-    (λ c. search needs)
-    (λ c. search needs)
-    (λ c κs. search needs)
-    (λ c. search needs)
-    returns)
+    (tie.spec (λ c κs. search needs)
+    (λ c. search needs) (λ c. search needs) (λ c κs. search needs)
+    (λ c. search needs) (λ c. search needs) (λ c. search needs) (λ c. search needs) (λ c. search needs) (λ c κs. search needs)
+    (λ c. search needs) (λ c. search needs) (λ c. search needs) (λ c. search needs) (λ c. search needs) (λ c. search needs) (λ c κs. search needs)
+    (λ c. search needs) returns)

@@ -68,14 +68,14 @@ head c =
     let at = c .start .result in
     omega (
       arith,
-      body-room s (c .before .before .loop .i) at (byteAt s (at + 8)) (byteAt s (at + 9)) (c .start .ensures) refl refl
+      body-room s (c .before .before .loop .i) at (byteAt s (at + 8)) (byteAt s (at + 9)) (c .start .ensures .0) refl refl
           (in-book s (start (c .before) .pre)) (low (c .before)) .inside,
     )
 
 -- and room for its parts
-module _ (c : tie.After-count3 Inv-loop μ-loop) where
+module _ (c : tie.After-counts-at Inv-loop μ-loop) where
   abbrev found : tie.After-start Inv-loop μ-loop
-  found = c .before .before .before .before
+  found = c .before
 
   abbrev s : List ℕ
   s = book (start (found .before))
@@ -87,32 +87,32 @@ module _ (c : tie.After-count3 Inv-loop μ-loop) where
   at = found .start .result
 
   abbrev t : ℕ
-  t = c .before .before .count2 .result
+  t = c .counts-at .result .tests
 
   abbrev a : ℕ
-  a = c .count3 .result
+  a = c .counts-at .result .assigns
 
   room : Room s at t a 0
   room =
-      let r = body-room s i at t a (found .start .ensures) (c .before .before .count2 .ensures .0) (c .count3 .ensures .0)
+      let r = body-room s i at t a (found .start .ensures .0) (c .counts-at .ensures .tests) (c .counts-at .ensures .assigns)
       (in-book s (start (found .before) .pre)) (low (found .before)) in
       record { tests = r .tests; assigns = r .assigns; letters = omega arith; inside = omega (arith, r .inside) }
 
   same : ruleOf s at t a (byteAt s (at + 10)) ≡ ruleAt (tableIn s) i
   same =
-      body-is s i at t a (found .start .ensures) (c .before .before .count2 .ensures .0) (c .count3 .ensures .0)
+      body-is s i at t a (found .start .ensures .0) (c .counts-at .ensures .tests) (c .counts-at .ensures .assigns)
       (low (found .before))
 
 reads-requires : tie.Need-reads-requires Inv-loop μ-loop
 reads-requires c κs =
     let d = c .before in (
       room d,
-      omega (arith, d .before .before .count2 .ensures .0),
-      omega (arith, d .count3 .ensures .0),
+      omega (arith, d .counts-at .ensures .tests),
+      omega (arith, d .counts-at .ensures .assigns),
     )
 
 writes-requires : tie.Need-writes-requires Inv-loop μ-loop
-writes-requires c κs = let d = c .before .before in (room d, omega (arith, d .count3 .ensures .0))
+writes-requires c κs = let d = c .before .before in (room d, omega (arith, d .counts-at .ensures .assigns))
 
 loop-again : tie.Need-loop-again Inv-loop μ-loop
 loop-again c =
@@ -156,13 +156,8 @@ taken-spec =
     (λ c. omega (arith, contents (c .before .before)))
     (λ c κs. search needs)
     loop-holds
-    (λ c κs. omega (arith, low c, contents (start c)))
-    (λ c. omega (arith, head c))
-    (λ c. omega (arith, head (c .before)))
-    (λ c κs. search needs)
-    (λ c. omega (arith, head (c .before .before)))
-    (λ c. omega (arith, head (c .before .before .before)))
-    (λ c κs. search needs)
+    (λ c κs. (omega (arith, c .loop-test .taken, c .before .loop .inv .1), omega (arith, low c, contents (start c))))
+    (λ c κs. head c)
     (λ c κs. omega (arith, head (found c)))
     (λ c. search needs)
     (λ c. search needs)
