@@ -15,7 +15,7 @@ use Rattle.analysis_pairs.specs.AnalysisPairsInner.{Judged}
 use Rattle.analysis_pairs.proofs.RulesLaws.{Alike, culprits-alike}
 use Rattle.analysis_marks.specs.AnalysisMarksInner.{Graphs, graphRules, Marks, Twos}
 use Rattle.analysis_marks.specs.Index.{index}
-use Rattle.analysis_marks.proofs.CountsLaws.{count-none, count-some}
+use Rattle.mask.proofs.CountsLaws.{count-none, count-some}
 use Rattle.analysis_marks.specs.Marks.{Marked, absent, ordered, passes, fails, failsAt, FirstOf}
 
 -- ---- what a mark tells

@@ -9,8 +9,7 @@ use native.Mathlib.Omega.{arith}
 use lib.ListN.{length, getD, set}
 use Rattle.mask.proofs.SearchLaws.{lt-or-ge}
 use Rattle.mask.specs.MaskInner.{Upto}
-use Rattle.mask.proofs.LoopsLaws.{upto-keep, upto-store}
-use Rattle.analysis_weights.proofs.WeighingLaws.{zeros-at}
+use Rattle.mask.proofs.LoopsLaws.{upto-keep, upto-store, zeros-at}
 use Rattle.analysis_pairs.specs.declared.Masks.{Masks}
 use Rattle.analysis_pairs.specs.Rules.{Rules, Unordered}
 use Rattle.analysis_pairs.specs.RuleMasks.{rulesOf, triggers}

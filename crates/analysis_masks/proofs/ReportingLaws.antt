@@ -22,7 +22,7 @@ use Rattle.analysis_marks.specs.AnalysisMarksInner.{Graphs, Marks}
 use Rattle.analysis_masks.specs.AnalysisMasksInner.{Orderly}
 use Rattle.analysis_marks.specs.Index.{index}
 use Rattle.analysis_marks.proofs.IndexLaws.{index-lt, PairAt, pair-at}
-use Rattle.analysis_marks.proofs.CountsLaws.{count-none, count-some}
+use Rattle.mask.proofs.CountsLaws.{count-none, count-some}
 use Rattle.analysis_masks.specs.Cleared.{Faulty, Cleared}
 use Rattle.analysis_marks.specs.Marks.{Marked, failsAt}
 use Rattle.analysis_masks.proofs.ReportLaws.{marked-alike}

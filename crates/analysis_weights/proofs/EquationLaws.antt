@@ -12,8 +12,7 @@ use Rattle.mask.specs.Search.{some}
 use Rattle.mask.proofs.SearchLaws.{some-none, some-false}
 use Rattle.mask.specs.Mask.{has}
 use Rattle.mask.proofs.BitsLaws.{has-lt}
-use Rattle.graph.specs.GraphInner.{Edge}
-use Rattle.graph.specs.GraphInner.{Rows, Halts}
+use Rattle.graph.specs.GraphInner.{Edge, Rows, Halts}
 use Rattle.analysis_weights.specs.Weight.{total, weightOf}
 use Rattle.analysis_weights.proofs.SumsLaws.{total-same}
 use Rattle.analysis_weights.proofs.WeightLaws.{weightOf-halts}

@@ -4,7 +4,7 @@ use mathlib.Core.Path.{_≡_, refl, sym, ap, ap₂, _∙_, subst}
 use mathlib.Core.Logic.{_≢_}
 use mathlib.Core.Bool.{Bool, true, false, not, _&&_, false≢true, and-false}
 use mathlib.Core.List.{List}
-use Prim.Native.Nat.{ℕ, zero, suc, _+_, _*_, _^_, _≤_, _<_}
+use Prim.Native.Nat.{ℕ, suc, _+_, _*_, _^_, _≤_, _<_}
 use native.Mathlib.Nat.{le-trans, le-of-eq, mul-le-mul-left, mul-le-mul-right, mul-assoc, mul-comm, pow-suc, one-mul}
 use native.Mathlib.Decide.{ℕ-discrete}
 use native.Mathlib.Omega.{arith}
@@ -155,10 +155,3 @@ module _ (trig : List ℕ) (left left′ : ℕ) (w : List ℕ) (r : ℕ) (lr : r
           u .same r (hl r ∙ ap (λ (b : Bool). has left r && not b) (eq-eqb r r refl) ∙ and-false (has left r))
           ∙ getD-set-same w r (t + 1) 0 lw
           ∙ (let e : t ≡ total 32 (getD trig r 0) (weightIn v) = q ∙ sum in omega (arith, e))
-
--- ---- the start: no weights yet
-
-pub zeros-at : (n r : ℕ) → _≡_ {A = ℕ} (getD (replicate n 0) r 0) 0
-zeros-at zero r = refl
-zeros-at (suc n) zero = refl
-zeros-at (suc n) (suc r) = zeros-at n r

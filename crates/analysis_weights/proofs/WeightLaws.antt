@@ -12,9 +12,8 @@ use Rattle.mask.specs.Search.{some, count}
 use Rattle.mask.proofs.SearchLaws.{Found, some-elim, some-false, and-true-both, count-lt, count-max}
 use Rattle.mask.specs.Mask.{has}
 use Rattle.mask.proofs.BitsLaws.{has-lt}
-use Rattle.graph.specs.GraphInner.{Edge}
+use Rattle.graph.specs.GraphInner.{Edge, Rows, Halts, halts}
 use Rattle.graph.specs.Graph.{directly, through, leads}
-use Rattle.graph.specs.GraphInner.{Rows, Halts, halts}
 use Rattle.graph.proofs.GraphLaws.{leads-iff}
 use Rattle.graph.proofs.HaltsLaws.{halts-acyclic}
 use Rattle.analysis_weights.specs.Weight.{total, weightOf}

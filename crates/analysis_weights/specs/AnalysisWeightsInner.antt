@@ -6,8 +6,7 @@ use Prim.Native.Nat.{ℕ, zero, suc, _+_, _*_, _^_, _≤_, _<_}
 use lib.ListN.{getD, length}
 use Rattle.mask.specs.Search.{count}
 use Rattle.mask.specs.Mask.{has, meet}
-use Rattle.graph.specs.GraphInner.{Edge}
-use Rattle.graph.specs.GraphInner.{Rows, Halts}
+use Rattle.graph.specs.GraphInner.{Edge, Rows, Halts}
 use Rattle.analysis_weights.specs.Weight.{total}
 
 -- r is the lowest rule of `left` that may trigger none of `left`, or 32

@@ -16,9 +16,8 @@ use Rattle.table.proofs.SoundLaws.{parts}
 use Rattle.table.specs.Memory.{tableFrom, tableBytes, HeldTable}
 use Rattle.table.proofs.TableTripLaws.{stored-loaded}
 use Rattle.book_judge.specs.Read.{Reading, startOf, tableIn, readAnswers, readOf}
-use Rattle.book_judge.specs.BookJudgeInner.{taken}
+use Rattle.book_judge.specs.BookJudgeInner.{taken, nOf, bodyIn, GoodBodies}
 use Rattle.book_judge.proofs.InsideLaws.{fitting, inside, counts, room}
-use Rattle.book_judge.specs.BookJudgeInner.{nOf, bodyIn, GoodBodies}
 use Rattle.book_judge.proofs.ReadLaws.{Taken, read-done}
 
 -- refused, its table is empty

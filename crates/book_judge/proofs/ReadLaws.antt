@@ -24,8 +24,7 @@ use Rattle.table.proofs.SoundLaws.{sized, none-first, first-is}
 use Rattle.table.proofs.TableSlotLaws.{empty-slot}
 use Rattle.book_judge.specs.Read.{Reading, lengthOf, headBad, contentsBad, tableIn, numberIn, firstIn}
 use Rattle.book_judge.specs.Read.{refusal, readAnswers, readOf}
-use Rattle.book_judge.specs.BookJudgeInner.{taken}
-use Rattle.book_judge.specs.BookJudgeInner.{nOf, kOf, bodyIn, bodyBad, bodiesOf}
+use Rattle.book_judge.specs.BookJudgeInner.{taken, nOf, kOf, bodyIn, bodyBad, bodiesOf}
 
 -- ---- a rule's number, as the reader finds it
 

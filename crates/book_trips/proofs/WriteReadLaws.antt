@@ -33,9 +33,8 @@ use Rattle.table.proofs.SoundLaws.{Parts, parts, sizes-good}
 use Rattle.table.specs.BodyStarts.{startAt}
 use Rattle.table.proofs.BodyStartsLaws.{starts-same}
 use Rattle.book_judge.specs.Read.{startOf, lengthOf, ruleIn, tableIn, numberIn, firstIn}
-use Rattle.book_judge.specs.BookJudgeInner.{taken}
+use Rattle.book_judge.specs.BookJudgeInner.{taken, nOf, kOf}
 use Rattle.book_judge.specs.Read.{lengthBad, headBad, contentsBad, readAnswers, readOf}
-use Rattle.book_judge.specs.BookJudgeInner.{nOf, kOf}
 use Rattle.book_write.specs.Book.{bookOf}
 use Rattle.book_parts.specs.BookPartsInner.{Ready, sizesOf, entryBytes, contentsBytes, bodiesBytes}
 use Rattle.book_parts.proofs.PartsLaws.{ready, size-most, start-most, length-contents, length-bodies}

@@ -16,7 +16,7 @@ use Rattle.mask.specs.Mask.{has}
 use Rattle.mask.proofs.BitsLaws.{has-zero, has-high, unlike}
 use Rattle.graph.specs.Graph.{leads}
 use Rattle.graph.specs.GraphInner.{Rows}
-use Rattle.analysis_weights.proofs.WeighingLaws.{zeros-at}
+use Rattle.mask.proofs.LoopsLaws.{zeros-at}
 use Rattle.analysis_pairs.specs.declared.Masks.{Masks}
 use Rattle.analysis_pairs.specs.RuleMasks.{mayTrigger, commute, masksBy, triggers}
 use Rattle.analysis_pairs.specs.AnalysisPairsInner.{clashes, Among}

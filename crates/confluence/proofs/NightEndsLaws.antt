@@ -1,16 +1,16 @@
 -- Why clearing is needed, and what "not cleared" does not mean: the night book has two ends, and so no report of it says cleared; the
 -- twins' pair fails, and all their orders end alike.
 use mathlib.Core.Path.{_≡_, refl, sym, ap, _∙_, subst}
-use mathlib.Core.Logic.{_⊎_, inl, inr, ⊎-elim}
+use mathlib.Core.Logic.{_⊎_, inl, inr}
 use mathlib.Core.Bool.{true, false≢true}
 use mathlib.Core.List.{List, [], _∷_}
 use Prim.Native.Nat.{ℕ, zero, suc, _^_, _<_}
 use native.Mathlib.Omega.{arith}
 use lib.Dec.{lit<}
 use lib.IntN.{pos}
-use lib.ListN.{getD, replicate, getD-replicate, List·getD-eq-default}
+use lib.ListN.{getD}
 use Rattle.mask.specs.Search as Search
-use Rattle.mask.proofs.SearchLaws.{lt-or-ge}
+use Rattle.mask.proofs.LoopsLaws.{zeros-at}
 use Rattle.mask.specs.Mask as Mask
 use Rattle.mask.specs.Mask.{has}
 use Rattle.mask.proofs.BitsLaws.{has-zero}
@@ -89,15 +89,8 @@ night-not-cleared r says e c = night-differs (demand-3 nightTable nightEvening r
 
 -- ---- the twins: "an unordered pair may fail and still agree"
 
-zeros : List ℕ
-zeros = replicate 32 0
-
 no-precedes : (r : ℕ) → getD (masksOf twins .precedes) r 0 ≡ 0
-unfolding zeros
-no-precedes r =
-    ⊎-elim (getD-replicate 32 r 0 0)
-    (λ l. List·getD-eq-default zeros 0 {n = r} l)
-    (lt-or-ge r 32)
+no-precedes = zeros-at 32
 
 pub twins-not-cleared : (r : Report) → ReportSays twins r → r .number ≡ 0 → r .cleared ≡ true → ⊥
 unfolding writes Search.some

@@ -7,9 +7,8 @@ use Prim.Native.Nat.{ℕ, zero, suc, _<_}
 use native.Mathlib.Nat.{le-trans, le-suc, le-refl, eq-or-lt-of-le, le-of-suc-le-suc, not-suc-le-zero}
 use Rattle.mask.proofs.SearchLaws.{or-true-cases, and-true-both}
 use Rattle.mask.proofs.BitsLaws.{has-lt}
-use Rattle.graph.specs.GraphInner.{Edge}
+use Rattle.graph.specs.GraphInner.{Edge, Rows}
 use Rattle.graph.specs.Graph.{Leads, directly, through, leads}
-use Rattle.graph.specs.GraphInner.{Rows}
 
 -- r leads to s, and the rules in between are below k
 pub data Via (rows : List ℕ) (k : ℕ) : ℕ → ℕ → Type 0 where

@@ -7,9 +7,8 @@ use native.Mathlib.Nat.{le-refl, le-trans, not-suc-le-zero, le-of-suc-le-suc}
 use Rattle.mask.specs.Search.{count}
 use Rattle.mask.proofs.SearchLaws.{count-lt}
 use Rattle.mask.proofs.BitsLaws.{has-lt}
-use Rattle.graph.specs.GraphInner.{Edge}
+use Rattle.graph.specs.GraphInner.{Edge, Rows, Halts, halts}
 use Rattle.graph.specs.Graph.{Leads, directly, through, leads}
-use Rattle.graph.specs.GraphInner.{Rows, Halts, halts}
 use Rattle.graph.proofs.GraphLaws.{leads-iff, leads-join}
 
 module _ (rows : List ℕ) (n : ℕ) (h : Rows n rows) where

@@ -9,7 +9,7 @@ use native.Mathlib.Nat.{le-antisymm, add-comm, one-mul, pow-suc, lt-irrefl, le-s
 use native.Mathlib.Numerals.{add-one}
 use native.Mathlib.Omega.{arith}
 use lib.Dec.{eqb, ltb, lit<}
-use lib.ListN.{length, getD, set, length-set, List·getD-eq-default}
+use lib.ListN.{length, getD, set, replicate, length-set, List·getD-eq-default}
 use lib.Seq.{getD-set-same, getD-set-other}
 use borrow.Author.Count.{below-more}
 use borrow.Author.Tests.{lt-ltb, le-ltb, ltb-true, ltb-false, eq-eqb, ne-eqb}
@@ -69,6 +69,13 @@ module _ (P : ℕ → ℕ → Type 0) (p : List ℕ) where
 
   pub upto-all : (i : ℕ) (q : List ℕ) → Upto P p i q → length p ≤ i → ((x : ℕ) → length p ≤ x → getD p x 0 ≡ 0 → P x (getD p x 0)) → (x : ℕ) → P x (getD q x 0)
   upto-all i q u l out x = ⊎-elim (λ h. u .done x h) (λ h. subst (P x) (sym (u .rest x h)) (out x (le-trans l h) (List·getD-eq-default p 0 (le-trans l h)))) (lt-or-ge x i)
+
+-- ---- a row of zeros, wherever it is read
+
+pub zeros-at : (n r : ℕ) → _≡_ {A = ℕ} (getD (replicate n 0) r 0) 0
+zeros-at zero r = refl
+zeros-at (suc n) zero = refl
+zeros-at (suc n) (suc r) = zeros-at n r
 
 -- ---- a set, number by number: a holds the numbers below i that pass f
 

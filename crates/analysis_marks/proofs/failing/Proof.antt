@@ -7,9 +7,8 @@ use native.Mathlib.Nat.{add-zero, le-antisymm}
 use native.Mathlib.Omega.{arith}
 use borrow.Author.Tests.{eq-eqb, ne-eqb}
 use Rattle.mask.specs.Search.{count}
-use Rattle.mask.proofs.SearchLaws.{oneIf}
-use Rattle.mask.proofs.SearchLaws.{count-max}
-use Rattle.analysis_marks.proofs.CountsLaws.{count-more}
+use Rattle.mask.proofs.SearchLaws.{oneIf, count-max}
+use Rattle.mask.proofs.CountsLaws.{count-more}
 use Rattle.analysis_marks.specs.Marks.{failsAt}
 use borrow.Author.Needs.{needs}
 use Rattle.analysis_marks.proofs.failing.Statement.{statement}

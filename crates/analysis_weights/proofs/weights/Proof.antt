@@ -5,7 +5,8 @@ use native.Mathlib.Nat.{le-trans}
 use lib.Pow.{pow-mono}
 use borrow.Author.Tests.{lt-ltb, le-ltb}
 use Rattle.mask.proofs.BitsLaws.{has-lt}
-use Rattle.analysis_weights.proofs.WeighingLaws.{room-start, zeros-at}
+use Rattle.analysis_weights.proofs.WeighingLaws.{room-start}
+use Rattle.mask.proofs.LoopsLaws.{zeros-at}
 use borrow.Author.Needs.{needs}
 use Rattle.analysis_weights.proofs.weights.Statement.{statement}
 use Rattle.analysis_weights.proofs.weights.Tie as tie

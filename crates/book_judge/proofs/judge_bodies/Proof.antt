@@ -17,8 +17,7 @@ use Rattle.rule_check.specs.RuleCheckInner.{numberWith, takenIn}
 use Rattle.rule_check.proofs.NamesLaws.{Named, named-none, named-more, number-named}
 use Rattle.table.specs.Table.{ruleAt, precedesOf}
 use Rattle.book_judge.specs.Read.{ruleIn, numberIn, tableIn, refusal, told}
-use Rattle.book_judge.specs.BookJudgeInner.{taken}
-use Rattle.book_judge.specs.BookJudgeInner.{nOf, kOf, bodyIn, bodyBad, Stretch, bodiesOf}
+use Rattle.book_judge.specs.BookJudgeInner.{taken, nOf, kOf, bodyIn, bodyBad, Stretch, bodiesOf}
 use Rattle.book_judge.proofs.ReadLaws.{rule-in, number-body, number-good, refused-at, none-refused}
 use Rattle.book_judge.proofs.InsideLaws.{counts, room}
 use Rattle.book_judge.proofs.JudgeLaws.{body-long, body-bytes}

@@ -6,9 +6,8 @@ use native.Mathlib.Nat.{le-refl, le-trans, le-suc}
 use native.Mathlib.Numerals.{add-one}
 use native.Mathlib.Omega.{arith}
 use lib.Dec.{eqb}
 use Rattle.mask.specs.Search.{count}
-use Rattle.mask.proofs.SearchLaws.{oneIf}
-use Rattle.mask.proofs.SearchLaws.{count-drop}
+use Rattle.mask.proofs.SearchLaws.{oneIf, count-drop}
 
 pub count-more : (n : ℕ) (f : ℕ → Bool) → count (n + 1) f ≡ count n f + oneIf (f n)
 unfolding count
