@@ -2,9 +2,9 @@
 use mathlib.Core.Path.{◌≡◌, sym, ap, ◌∙◌, subst}
 use Prim.Native.Nat.{ℕ, ◌^◌, ◌<◌}
 use native.Mathlib.Decide.{ℕ_discrete}
-use Rattle.table.specs.Table.{Table, ruleAt}
+use Rattle.table.specs.Table.{Table, rule_at}
 use Rattle.table.specs.declared.Answer.{Answer}
-use Rattle.table.specs.Check.{checkOf, Checked, Sound}
+use Rattle.table.specs.Check.{check_of, Checked, Sound}
 use Rattle.table.proofs.SoundLaws.{sound-by}
 use Rattle.analysis_masks.specs.declared.Report.{Report}
 use Rattle.analysis_masks.specs.declared.Bound.{Bound}
@@ -13,7 +13,7 @@ use Rattle.analysis_masks.specs.Report.{Reported}
 use Rattle.analysis_masks.specs.Bound.{Bounded}
 use Rattle.analysis_masks.proofs.ReportLaws.{unique}
 use Rattle.analysis_masks.proofs.BoundLaws.{bound-unique}
-use Rattle.analysis.specs.TableMasks.{masksOf}
+use Rattle.analysis.specs.TableMasks.{masks_of}
 use Rattle.analysis.proofs.TableMasksLaws.{masks-orderly}
 use Rattle.analysis.specs.Says.{ReportSays, BoundSays}
 
@@ -28,7 +28,7 @@ module _ {A : Type 0} {refusal : ℕ → ℕ → A} {Done : A → Type 0} where
       }
 
   -- of a sound table no answer is refused
-  sound-says : {t : Table} {x : A} → Sound t → Done x → Checked (checkOf t) refusal Done x
+  sound-says : {t : Table} {x : A} → Sound t → Done x → Checked (check_of t) refusal Done x
   sound-says s h =
       record { refused = λ ne. absurd (ne (ap (λ (x : Answer). x.number) s.checked)); done = λ e. h }
 
@@ -41,28 +41,28 @@ module _ {A : Type 0} {refusal : ℕ → ℕ → A} {Done : A → Type 0} where
       ]
 
 -- a table whose checks give no number is sound
-pub sound-checked : {t : Table} {a : Answer} → a ≡ checkOf t → a.number ≡ 0 → Sound t
+pub sound-checked : {t : Table} {a : Answer} → a ≡ check_of t → a.number ≡ 0 → Sound t
 sound-checked {t} e z = sound-by t (sym (ap (λ (x : Answer). x.number) e) ∙ z)
 
 -- ---- the two calls
 
-pub sound-reports : {t : Table} {r : Report} → Sound t → Reported (masksOf t) r → ReportSays t r
-sound-reports s h = sound-says s h
+pub sound_reports : {t : Table} {r : Report} → Sound t → Reported (masks_of t) r → ReportSays t r
+sound_reports s h = sound-says s h
 
-pub sound-bounds : {t : Table} {set : ℕ} {b : Bound} → Sound t → Bounded (masksOf t) set b → BoundSays t set b
+pub sound-bounds : {t : Table} {set : ℕ} {b : Bound} → Sound t → Bounded (masks_of t) set b → BoundSays t set b
 sound-bounds s h = sound-says s h
 
 pub report-unique : (t : Table) (r s : Report) → ReportSays t r → ReportSays t s → r ≡ s
-report-unique t r s = says-unique (λ e. unique (masksOf t) r s)
+report-unique t r s = says-unique (λ e. unique (masks_of t) r s)
 
 -- of a table that memory can hold: its precedes masks have 32 bits
-pub bound-of-unique : (t : Table) → ((i : ℕ) → i < t.n → (ruleAt t i).precedes < 2 ^ 32) → (set : ℕ) (a b : Bound)
+pub bound_of_unique : (t : Table) → ((i : ℕ) → i < t.n → (rule_at t i).precedes < 2 ^ 32) → (set : ℕ) (a b : Bound)
     → BoundSays t set a → BoundSays t set b → a ≡ b
-bound-of-unique t h set a b = says-unique (λ e. bound-unique (masksOf t) (masks-orderly t (sound-by t e) h) set a b)
+bound_of_unique t h set a b = says-unique (λ e. bound-unique (masks_of t) (masks-orderly t (sound-by t e) h) set a b)
 
 -- the report depends on nothing but the four masks of each rule
-pub masks-alone : (t u : Table) → Sound t → Sound u → masksOf t ≡ masksOf u → (r s : Report) → ReportSays t r → ReportSays u s → r ≡ s
-masks-alone t u a b e r s p q =
-    unique (masksOf u) r s
+pub masks_alone : (t u : Table) → Sound t → Sound u → masks_of t ≡ masks_of u → (r s : Report) → ReportSays t r → ReportSays u s → r ≡ s
+masks_alone t u a b e r s p q =
+    unique (masks_of u) r s
     (subst (λ (m : Masks). Reported m r) e (p.done (ap (λ (x : Answer). x.number) a.checked)))
     (q.done (ap (λ (x : Answer). x.number) b.checked))

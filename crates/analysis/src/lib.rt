@@ -1,21 +1,21 @@
 // The analysis of a table: whether it is cleared, which rules stand in the way, and the step bound of a set.
 ghost use Rattle.std.specs.Prelude.{◌≡◌, length};
 ghost use Rattle.table.specs.Check.{Sound};
-ghost use Rattle.table.specs.Memory.{tableFrom};
+ghost use Rattle.table.specs.Memory.{table_from};
 ghost use Rattle.analysis_masks.specs.Report.{Reported};
-ghost use Rattle.analysis_masks.specs.AnalysisMasksInner.{reportIn};
-ghost use Rattle.analysis_marks.specs.AnalysisMarksInner.{noMarks};
+ghost use Rattle.analysis_masks.specs.AnalysisMasksInner.{report_in};
+ghost use Rattle.analysis_marks.specs.AnalysisMarksInner.{no_marks};
 ghost use Rattle.analysis_masks.specs.Bound.{Bounded};
-ghost use Rattle.analysis.specs.TableMasks.{masksOf};
+ghost use Rattle.analysis.specs.TableMasks.{masks_of};
 ghost use Rattle.analysis.specs.AnalysisInner.{SoundBytes};
-ghost use Rattle.analysis.specs.Says.{refusedReport, ReportSays, BoundSays};
+ghost use Rattle.analysis.specs.Says.{refused_report, ReportSays, BoundSays};
 
 use analysis_masks::{Bound, Report, Summary};
 
 // The cells that each rule of a sound table reads, as a row of masks; 0 past the last rule.
 fn reads(s: &[u8], n: usize) -> [u32; 32]
     requires { SoundBytes s.now n }
-    ensures { result ≡ (masksOf (tableFrom s.now)).reads }
+    ensures { result ≡ (masks_of (table_from s.now)).reads }
 {
     let mut q = [0u32; 32];
     for i in 0..n {
@@ -27,7 +27,7 @@ fn reads(s: &[u8], n: usize) -> [u32; 32]
 // The cells that each rule writes.
 fn writes(s: &[u8], n: usize) -> [u32; 32]
     requires { SoundBytes s.now n }
-    ensures { result ≡ (masksOf (tableFrom s.now)).writes }
+    ensures { result ≡ (masks_of (table_from s.now)).writes }
 {
     let mut q = [0u32; 32];
     for i in 0..n {
@@ -38,8 +38,8 @@ fn writes(s: &[u8], n: usize) -> [u32; 32]
 
 // The report on a sound table: its marks are filled in where all were 0, the rest is given back.
 fn judged(s: &[u8], marks: &mut [u8; 496]) -> Summary
-    requires { (length s.now ≡ 9092) × Sound (tableFrom s.now) × (marks.old ≡ noMarks) }
-    ensures { Reported (masksOf (tableFrom s.now)) (reportIn result marks.new) }
+    requires { (length s.now ≡ 9092) × Sound (table_from s.now) × (marks.old ≡ no_marks) }
+    ensures { Reported (masks_of (table_from s.now)) (report_in result marks.new) }
 {
     let n = rule::count(s[1]);
     let watch = table_rows::watches(s, n);
@@ -51,8 +51,8 @@ fn judged(s: &[u8], marks: &mut [u8; 496]) -> Summary
 
 // The step bound of a set of rules of a sound table.
 fn bounded(s: &[u8], set: u32) -> Bound
-    requires { (length s.now ≡ 9092) × Sound (tableFrom s.now) }
-    ensures { Bounded (masksOf (tableFrom s.now)) set result }
+    requires { (length s.now ≡ 9092) × Sound (table_from s.now) }
+    ensures { Bounded (masks_of (table_from s.now)) set result }
 {
     let n = rule::count(s[1]);
     let watch = table_rows::watches(s, n);
@@ -62,7 +62,7 @@ fn bounded(s: &[u8], set: u32) -> Bound
 
 // A refused report.
 pub fn no_report(number: u8, place: u8) -> Report
-    ensures { result ≡ refusedReport number place }
+    ensures { result ≡ refused_report number place }
 {
     Report {
         number: number,
@@ -79,7 +79,7 @@ pub fn no_report(number: u8, place: u8) -> Report
 }
 
 pub fn report(table: &[u8; 9092]) -> Report
-    ensures { ReportSays (tableFrom table.now) result }
+    ensures { ReportSays (table_from table.now) result }
 {
     let a = table::check(table);
     if a.number != 0 {
@@ -91,7 +91,7 @@ pub fn report(table: &[u8; 9092]) -> Report
 }
 
 pub fn bound(table: &[u8; 9092], set: u32) -> Bound
-    ensures { BoundSays (tableFrom table.now) set result }
+    ensures { BoundSays (table_from table.now) set result }
 {
     let a = table::check(table);
     if a.number != 0 {

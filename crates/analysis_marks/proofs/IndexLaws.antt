@@ -5,12 +5,12 @@ use Prim.Native.Nat.{ℕ, zero, suc, ◌+◌, ◌-◌, ◌≤◌, ◌<◌}
 use native.Mathlib.Nat.{le_refl, le_trans, le-suc, not-suc-le-zero}
 use native.Mathlib.Decide.{le_ind}
 use native.Mathlib.Omega.{arith}
-use Rattle.mask.proofs.SearchLaws.{lt-or-ge}
+use Rattle.mask.proofs.SearchLaws.{lt-or_ge}
 use Rattle.analysis_marks.specs.Index.{start, index}
 
-pub start-mono : (i k : ℕ) → i ≤ k → start i ≤ start k
+pub start_mono : (i k : ℕ) → i ≤ k → start i ≤ start k
 unfolding start
-start-mono i = le_ind (λ k. start i ≤ start k) (le_refl (start i)) (λ k l e. omega arith)
+start_mono i = le_ind (λ k. start i ≤ start k) (le_refl (start i)) (λ k l e. omega arith)
 
 pub start-next : (i : ℕ) → start (suc i) ≡ start i + (31 - i)
 unfolding start
@@ -26,18 +26,18 @@ index-row i j l h = omega (arith, start-next i)
 
 pub index-lt : (i j : ℕ) → i < j → j < 32 → index i j < 496
 index-lt i j l h =
-    omega (arith, index-row i j l h, start-mono (suc i) 31 (le_trans l (omega arith)), start-all)
+    omega (arith, index-row i j l h, start_mono (suc i) 31 (le_trans l (omega arith)), start-all)
 
-pub index-inj : (i j i' j' : ℕ) → i < j → j < 32 → i' < j' → j' < 32 → index i j ≡ index i' j' → (i ≡ i') × (j ≡ j')
-index-inj i j i' j' l h l' h' e =
+pub index_inj : (i j i' j' : ℕ) → i < j → j < 32 → i' < j' → j' < 32 → index i j ≡ index i' j' → (i ≡ i') × (j ≡ j')
+index_inj i j i' j' l h l' h' e =
     ⊎_elim
-    (λ k. let f : ⊥ = omega (arith, index-row i j l h, start-mono (suc i) i' k) in absurd f)
+    (λ k. let f : ⊥ = omega (arith, index-row i j l h, start_mono (suc i) i' k) in absurd f)
     (λ k.
     ⊎_elim
-    (λ q. let f : ⊥ = omega (arith, index-row i' j' l' h', start-mono (suc i') i q) in absurd f)
+    (λ q. let f : ⊥ = omega (arith, index-row i' j' l' h', start_mono (suc i') i q) in absurd f)
     (λ q. let z : i ≡ i' = omega arith in (z, let s : start i ≡ start i' = ap start z in omega arith))
-    (lt-or-ge i' i))
-    (lt-or-ge i i')
+    (lt-or_ge i' i))
+    (lt-or_ge i i')
 
 -- ---- every place is that of a pair
 
@@ -56,7 +56,7 @@ row_of (suc b) k l =
     let r : RowOf b k = row_of b k h in
     record { row = r.row; below = le_trans r.below (le-suc b); from = r.from; to = r.to })
     (λ h. record { row = b; below = le_refl (suc b); from = h; to = l })
-    (lt-or-ge k (start b))
+    (lt-or_ge k (start b))
 
 pub record PairAt (k : ℕ) : Type 0 where
   pub i : ℕ
@@ -79,16 +79,16 @@ pair-at k l =
 -- a row that starts at or before a place is no later than the last
 pub row_low : (i k : ℕ) → start i ≤ k → k < 496 → i < 31
 row_low i k l h =
-    ⊎_elim (λ q. q) (λ q. let f : ⊥ = omega (arith, start-mono 31 i q, start-all) in absurd f) (lt-or-ge i 31)
+    ⊎_elim (λ q. q) (λ q. let f : ⊥ = omega (arith, start_mono 31 i q, start-all) in absurd f) (lt-or_ge i 31)
 
 -- a pair whose place lies in row i is of row i
 pub row_is : (i i' j' : ℕ) → i' < j' → j' < 32 → start i ≤ index i' j' → index i' j' < start (suc i) → i ≡ i'
 row_is i i' j' l h a b =
     ⊎_elim
-    (λ k. let f : ⊥ = omega (arith, start-mono (suc i) i' k) in absurd f)
+    (λ k. let f : ⊥ = omega (arith, start_mono (suc i) i' k) in absurd f)
     (λ k.
     ⊎_elim
-    (λ q. let f : ⊥ = omega (arith, index-row i' j' l h, start-mono (suc i') i q) in absurd f)
+    (λ q. let f : ⊥ = omega (arith, index-row i' j' l h, start_mono (suc i') i q) in absurd f)
     (λ q. omega arith)
-    (lt-or-ge i' i))
-    (lt-or-ge i i')
+    (lt-or_ge i' i))
+    (lt-or_ge i i')

@@ -13,10 +13,10 @@ use Rattle.mask.proofs.SearchLaws.{least-is}
 use Rattle.analysis_pairs.specs.Rules.{Rules, Unordered, Passes, Culprits}
 use Rattle.analysis_pairs.specs.AnalysisPairsInner.{Judged}
 use Rattle.analysis_pairs.proofs.RulesLaws.{Alike, culprits-alike}
-use Rattle.analysis_marks.specs.AnalysisMarksInner.{Graphs, graphRules, Marks, Twos}
+use Rattle.analysis_marks.specs.AnalysisMarksInner.{Graphs, graph_rules, Marks, Twos}
 use Rattle.analysis_marks.specs.Index.{index}
 use Rattle.mask.proofs.CountsLaws.{count_none, count-some}
-use Rattle.analysis_marks.specs.Marks.{Marked, absent, ordered, passes, fails, failsAt, FirstOf}
+use Rattle.analysis_marks.specs.Marks.{Marked, absent, ordered, passes, fails, fails_at, FirstOf}
 
 -- ---- what a mark tells
 
@@ -40,26 +40,26 @@ mark-fails (ordered h w) e = absurd (eqb-false 0 2 refl e)
 mark-fails (passes h u p) e = absurd (eqb-false 1 2 refl e)
 mark-fails (fails h u p) e = record { low = h; unordered = u; fails = p }
 
-pub marks-twos : (g : Graphs) (q : List ℕ) → Marks g q → Twos (graphRules g) q
-marks-twos g q marks = record { fails = λ i j low high e. (mark-fails (marks i j low high) e).fails }
+pub marks_twos : (g : Graphs) (q : List ℕ) → Marks g q → Twos (graph_rules g) q
+marks_twos g q marks = record { fails = λ i j low high e. (mark-fails (marks i j low high) e).fails }
 
 -- ---- the first failing pair
 
-pub first-none : (b : Rules) (q : List ℕ) (k : ℕ) → k ≡ least 496 (failsAt q) → k ≡ 496 → FirstOf b q 0 0 0 0
+pub first-none : (b : Rules) (q : List ℕ) (k : ℕ) → k ≡ least 496 (fails_at q) → k ≡ 496 → FirstOf b q 0 0 0 0
 first-none b q k e z =
     record {
       none = λ h. (refl, refl, refl, refl);
       some = λ h.
-          let c : count 496 (failsAt q) ≡ 0 =
-          count_none 496 (failsAt q) (λ i l. (least-is 496 (failsAt q)).first i (omega (arith, e))) in
+          let c : count 496 (fails_at q) ≡ 0 =
+          count_none 496 (fails_at q) (λ i l. (least-is 496 (fails_at q)).first i (omega (arith, e))) in
           let f : ⊥ = omega arith in absurd f;
     }
 
-pub first_some : (b : Rules) (q : List ℕ) (i j k c o : ℕ) (f : Bool) → Twos b q → k ≡ least 496 (failsAt q) → k < 496
+pub first_some : (b : Rules) (q : List ℕ) (i j k c o : ℕ) (f : Bool) → Twos b q → k ≡ least 496 (fails_at q) → k < 496
     → i < j → j < 32 → index i j ≡ k → Judged b i j f c o → FirstOf b q i j c o
 first_some b q i j k c o f twos e l low high at d =
     record {
-      none = λ h. let z : ⊥ = omega (arith, count-some 496 (failsAt q) (index i j) (omega arith) two) in absurd z;
+      none = λ h. let z : ⊥ = omega (arith, count-some 496 (fails_at q) (index i j) (omega arith) two) in absurd z;
       some = λ h.
           record {
             low = low;
@@ -69,8 +69,8 @@ first_some b q i j k c o f twos e l low high at d =
           };
     }
   where
-    two : failsAt q (index i j) ≡ true
-    two = rw (at, e) ((least-is 496 (failsAt q)).is (rw e at l))
+    two : fails_at q (index i j) ≡ true
+    two = rw (at, e) ((least-is 496 (fails_at q)).is (rw e at l))
 
     pick : (t : Bool) → f ≡ t → Culprits b i j c o
     pick true z = d.failing z

@@ -2,7 +2,7 @@
 use Rattle.std.specs.Prelude.{◌≡◌, List, ℕ, ◌≤◌, ◌<◌, get_or, replicate, ◌⊎◌, Bool, true, false}
 use Rattle.analysis_pairs.specs.Rules.{Passes, Rules}
 use Rattle.mask.specs.MaskInner.{Upto}
-use Rattle.analysis_pairs.specs.AnalysisPairsInner.{rowRules, turnedOf, Mutual}
+use Rattle.analysis_pairs.specs.AnalysisPairsInner.{row_rules, turned_of, Mutual}
 use Rattle.analysis_marks.specs.Index.{start, index}
 use Rattle.analysis_marks.specs.Marks.{Marked}
 
@@ -14,12 +14,12 @@ pub record Graphs : Type 0 where
   pub clash : List ℕ
 
 -- the rules that the three graphs describe
-abbrev pub graphRules : Graphs → Rules
-graphRules g = rowRules g.trig g.before g.clash
+abbrev pub graph_rules : Graphs → Rules
+graph_rules g = row_rules g.trig g.before g.clash
 
 -- the graphs in the rows that the code works on; mask s of `ahead`: the rules that go before s
-abbrev pub graphsIn : ℕ → List ℕ → List ℕ → List ℕ → Graphs
-graphsIn n trig ahead clash = record { n = n; trig = trig; before = turnedOf ahead; clash = clash }
+abbrev pub graphs_in : ℕ → List ℕ → List ℕ → List ℕ → Graphs
+graphs_in n trig ahead clash = record { n = n; trig = trig; before = turned_of ahead; clash = clash }
 
 -- whether i and j are unordered
 pub record WhetherUnordered (before : ℕ → ℕ → Type 0) (i j : ℕ) (r : Bool) : Type 0 where
@@ -33,15 +33,15 @@ pub data Judges (b : Rules) (i j : ℕ) : ℕ → Type 0 where
 
 -- v is the mark of the pair that stands at k
 abbrev pub MarkAt : Graphs → ℕ → ℕ → Type 0
-MarkAt g k v = (i j : ℕ) → i < j → j < 32 → index i j ≡ k → Marked (graphRules g) g.n i j v
+MarkAt g k v = (i j : ℕ) → i < j → j < 32 → index i j ≡ k → Marked (graph_rules g) g.n i j v
 
 -- 496 marks of 0
-unfoldable pub noMarks : List ℕ
-noMarks = replicate 496 0
+unfoldable pub no_marks : List ℕ
+no_marks = replicate 496 0
 
 -- the marks of the rows before row i are filled in, the others are 0
 abbrev pub Filled : Graphs → ℕ → List ℕ → Type 0
-Filled g i q = Upto (MarkAt g) noMarks (start i) q
+Filled g i q = Upto (MarkAt g) no_marks (start i) q
 
 pub record Filling (g : Graphs) (i at : ℕ) (q : List ℕ) : Type 0 where
   pub few : g.n ≤ 32
@@ -52,7 +52,7 @@ pub record Filling (g : Graphs) (i at : ℕ) (q : List ℕ) : Type 0 where
 
 -- every mark is that of its pair
 abbrev pub Marks : Graphs → List ℕ → Type 0
-Marks g q = (i j : ℕ) → i < j → j < 32 → Marked (graphRules g) g.n i j (get_or q (index i j) 0)
+Marks g q = (i j : ℕ) → i < j → j < 32 → Marked (graph_rules g) g.n i j (get_or q (index i j) 0)
 
 -- a pair whose mark is 2 fails
 pub record Twos (b : Rules) (q : List ℕ) : Type 0 where

@@ -12,17 +12,17 @@ pub data Marked (b : Rules) (n i j : ℕ) : ℕ → Type 0 where
   fails : j < n → Unordered b i j → (Passes b i j → ⊥) → Marked b n i j 2
 
 -- whether the mark at k is 2
-abbrev pub failsAt : List ℕ → ℕ → Bool
-failsAt marks k = eqb (get_or marks k 0) 2
+abbrev pub fails_at : List ℕ → ℕ → Bool
+fails_at marks k = eqb (get_or marks k 0) 2
 
 -- "the first failing pair with two culprits", row by row
 pub record First (b : Rules) (marks : List ℕ) (i j culprit other : ℕ) : Type 0 where
   pub low : i < j
   pub high : j < 32
-  pub earliest : index i j ≡ least 496 (failsAt marks)
+  pub earliest : index i j ≡ least 496 (fails_at marks)
   pub culprits : Culprits b i j culprit other
 
 -- "With no failing pair these four are 0."
 pub record FirstOf (b : Rules) (marks : List ℕ) (i j culprit other : ℕ) : Type 0 where
-  pub none : count 496 (failsAt marks) ≡ 0 → (i ≡ 0) × (j ≡ 0) × (culprit ≡ 0) × (other ≡ 0)
-  pub some : 0 < count 496 (failsAt marks) → First b marks i j culprit other
+  pub none : count 496 (fails_at marks) ≡ 0 → (i ≡ 0) × (j ≡ 0) × (culprit ≡ 0) × (other ≡ 0)
+  pub some : 0 < count 496 (fails_at marks) → First b marks i j culprit other

@@ -2,10 +2,10 @@
 ghost use Rattle.std.specs.Prelude.{◌≡◌, suc, ◌<◌, ◌≤◌, length};
 ghost use Rattle.mask.specs.Search.{count, least};
 ghost use Rattle.graph.specs.GraphInner.{Edge};
-ghost use Rattle.analysis_pairs.specs.AnalysisPairsInner.{turnedOf, rulesIn, Mutual};
+ghost use Rattle.analysis_pairs.specs.AnalysisPairsInner.{turned_of, rules_in, Mutual};
 ghost use Rattle.analysis_marks.specs.Index.{index};
-ghost use Rattle.analysis_marks.specs.Marks.{failsAt, FirstOf};
-ghost use Rattle.analysis_marks.specs.AnalysisMarksInner.{WhetherUnordered, Judges, graphsIn, noMarks, Filling, Filled, Marks, Twos};
+ghost use Rattle.analysis_marks.specs.Marks.{fails_at, FirstOf};
+ghost use Rattle.analysis_marks.specs.AnalysisMarksInner.{WhetherUnordered, Judges, graphs_in, no_marks, Filling, Filled, Marks, Twos};
 
 // Two rules, the lower first.
 #[derive(Drop)]
@@ -26,7 +26,7 @@ pub struct First {
 // Whether neither of two rules goes before the other. Mask s of `ahead`: the rules that go before s.
 fn unordered(ahead: &[u32; 32], i: usize, j: usize) -> bool
     requires { (i < 32) × (j < 32) }
-    ensures { WhetherUnordered (Edge (turnedOf ahead.now)) i j result }
+    ensures { WhetherUnordered (Edge (turned_of ahead.now)) i j result }
 {
     if mask::has(ahead[j], i) {
         return false;
@@ -40,7 +40,7 @@ fn unordered(ahead: &[u32; 32], i: usize, j: usize) -> bool
 // The mark of an unordered pair: 1 passes, 2 fails.
 fn mark(trig: &[u32; 32], ahead: &[u32; 32], clash: &[u32; 32], i: usize, j: usize) -> u8
     requires { (i < 32) × (j < 32) × Mutual clash.now }
-    ensures { Judges (rulesIn trig.now ahead.now clash.now) i j result }
+    ensures { Judges (rules_in trig.now ahead.now clash.now) i j result }
 {
     let w = analysis_pairs::judge(trig, ahead, clash, i, j);
     if w.fails { 2 } else { 1 }
@@ -56,8 +56,8 @@ fn row(
     at: usize,
     q: &mut [u8; 496],
 )
-    requires { Filling (graphsIn n trig.now ahead.now clash.now) i at q.old }
-    ensures { Filled (graphsIn n trig.now ahead.now clash.now) (suc i) q.new }
+    requires { Filling (graphs_in n trig.now ahead.now clash.now) i at q.old }
+    ensures { Filled (graphs_in n trig.now ahead.now clash.now) (suc i) q.new }
 {
     for j in i + 1..n {
         if unordered(ahead, i, j) {
@@ -68,8 +68,8 @@ fn row(
 
 // The 496 marks, row by row, where all were 0.
 pub fn filled(trig: &[u32; 32], ahead: &[u32; 32], clash: &[u32; 32], n: usize, q: &mut [u8; 496])
-    requires { (n ≤ 32) × Mutual clash.now × (q.old ≡ noMarks) }
-    ensures { (length q.new ≡ 496) × Marks (graphsIn n trig.now ahead.now clash.now) q.new }
+    requires { (n ≤ 32) × Mutual clash.now × (q.old ≡ no_marks) }
+    ensures { (length q.new ≡ 496) × Marks (graphs_in n trig.now ahead.now clash.now) q.new }
 {
     let mut at = 0;
     for i in 0..n {
@@ -80,7 +80,7 @@ pub fn filled(trig: &[u32; 32], ahead: &[u32; 32], clash: &[u32; 32], n: usize, 
 
 // How many marks are 2.
 pub fn failing(q: &[u8; 496]) -> u16
-    ensures { result ≡ count 496 (failsAt q.now) }
+    ensures { result ≡ count 496 (fails_at q.now) }
 {
     let mut c = 0;
     for k in 0..496 {
@@ -93,7 +93,7 @@ pub fn failing(q: &[u8; 496]) -> u16
 
 // Where the first mark 2 stands, or 496.
 fn first_mark(q: &[u8; 496]) -> usize
-    ensures { result ≡ least 496 (failsAt q.now) }
+    ensures { result ≡ least 496 (fails_at q.now) }
 {
     for at in 0..496 {
         if q[at] == 2 {
@@ -122,8 +122,8 @@ fn pair_at(k: usize) -> Pair
 
 // The first failing pair, judged again for its culprits.
 pub fn first_failing(trig: &[u32; 32], ahead: &[u32; 32], clash: &[u32; 32], q: &[u8; 496]) -> First
-    requires { Mutual clash.now × Twos (rulesIn trig.now ahead.now clash.now) q.now }
-    ensures { FirstOf (rulesIn trig.now ahead.now clash.now) q.now result.first result.second result.culprit result.other }
+    requires { Mutual clash.now × Twos (rules_in trig.now ahead.now clash.now) q.now }
+    ensures { FirstOf (rules_in trig.now ahead.now clash.now) q.now result.first result.second result.culprit result.other }
 {
     let k = first_mark(q);
     if k == 496 {

@@ -6,7 +6,7 @@ use mathlib.Core.List.{List}
 use Prim.Native.Nat.{ℕ, ◌^◌, ◌<◌}
 use lib.Pow.{pow_pos}
 use Rattle.mask.specs.Search.{some}
-use Rattle.mask.proofs.SearchLaws.{Found, some-elim, some-false}
+use Rattle.mask.proofs.SearchLaws.{Found, some-elim, some_false}
 use Rattle.mask.specs.Mask.{has, beyond}
 use Rattle.mask.specs.MaskInner.{lowest}
 use Rattle.mask.proofs.BitsLaws.{has-zero}
@@ -14,10 +14,10 @@ use Rattle.mask.proofs.MaskLaws.{lowest-has, not_beyond}
 use Rattle.graph.specs.Graph.{leads}
 use Rattle.graph.proofs.GraphLaws.{leads-iff, leads-below}
 use Rattle.analysis_weights.specs.Weight.{total}
-use Rattle.analysis_weights.specs.AnalysisWeightsInner.{weightIn, Weights}
+use Rattle.analysis_weights.specs.AnalysisWeightsInner.{weight_in, Weights}
 use Rattle.analysis_weights.proofs.WeightLaws.{total-weights}
 use Rattle.analysis_pairs.specs.declared.Masks.{Masks}
-use Rattle.analysis_pairs.specs.RuleMasks.{mayTrigger, triggers}
+use Rattle.analysis_pairs.specs.RuleMasks.{may_trigger, triggers}
 use Rattle.analysis_pairs.specs.AnalysisPairsInner.{triggering}
 use Rattle.analysis_masks.specs.declared.Bound.{Bound}
 use Rattle.analysis_masks.specs.AnalysisMasksInner.{Orderly}
@@ -37,9 +37,9 @@ triggering-orderly m o =
       precedes = λ r l. refl;
     }
 
-pub bounded-in : (m : Masks) (set : ℕ) (b : Bound) → Bounded (triggering m.n m.watch m.writes) set b → Bounded m set b
-unfolding triggers mayTrigger
-bounded-in m set b h = record { place = h.place; unfit = h.unfit; endless = h.endless; done = h.done }
+pub bounded_in : (m : Masks) (set : ℕ) (b : Bound) → Bounded (triggering m.n m.watch m.writes) set b → Bounded m set b
+unfolding triggers may_trigger
+bounded_in m set b h = record { place = h.place; unfit = h.unfit; endless = h.endless; done = h.done }
 
 abbrev made : ℕ → ℕ → ℕ → Bound
 made a b c = record { number = a; place = b; bound = c }
@@ -67,7 +67,7 @@ bound-unique m o set a b p q =
         (u.0 ∙ sym v.0, u.1 ∙ sym v.1)
     pick false e false f =
         let ends : (r : ℕ) → Faulty m r → ⊥ =
-        λ r c. false≢true (sym (some-false m.n round f r (leads-below m.n (triggers-rows m o) c))
+        λ r c. false≢true (sym (some_false m.n round f r (leads-below m.n (triggers-rows m o) c))
         ∙ (leads-iff m.n (triggers m) (triggers-rows m o) r r).1 c) in
         let u = p.done e ends in
         let v = q.done e ends in
@@ -86,7 +86,7 @@ module _ (m : Masks) (o : Orderly m) (f set : ℕ) (fits : f < 2 ^ 32) (hf : (x 
       }
 
   pub bounded-done : (t : ℕ) → set < 2 ^ 32 → f ≡ 0 → (v : List ℕ) → Weights (triggers m) m.n v
-      → t ≡ total 32 set (weightIn v)
+      → t ≡ total 32 set (weight_in v)
       → Bounded m set (made 0 255 t)
   bounded-done t ls z v w e =
       record {

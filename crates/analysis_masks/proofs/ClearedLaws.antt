@@ -7,7 +7,7 @@ use mathlib.Core.List.{List}
 use Prim.Native.Nat.{ℕ, ◌<◌}
 use lib.Arith.{lt_of_le-ne}
 use lib.ListN.{get_or}
-use Rattle.mask.proofs.SearchLaws.{lt-or-ge}
+use Rattle.mask.proofs.SearchLaws.{lt-or_ge}
 use Rattle.mask.specs.Mask.{has}
 use Rattle.mask.proofs.BitsLaws.{has-zero}
 use Rattle.graph.specs.Graph.{Leads, directly, through, leads}
@@ -17,7 +17,7 @@ use Rattle.graph.proofs.HaltsLaws.{acyclic-halts}
 use Rattle.analysis_pairs.specs.declared.Masks.{Masks}
 use Rattle.analysis_pairs.specs.Rules.{first, second, Unordered, Passes}
 use Rattle.analysis_pairs.proofs.RulesLaws.{passes-turned}
-use Rattle.analysis_pairs.specs.RuleMasks.{mayTrigger, commute, rulesOf, triggers}
+use Rattle.analysis_pairs.specs.RuleMasks.{may_trigger, commute, rules_of, triggers}
 use Rattle.analysis_pairs.proofs.RuleMasksLaws.{commute-sym, triggers-clash}
 use Rattle.analysis_masks.specs.AnalysisMasksInner.{Orderly}
 use Rattle.analysis_masks.specs.Cleared.{Faulty, Cleared}
@@ -26,7 +26,7 @@ use Rattle.analysis_masks.proofs.AlikeLaws.{triggers-rows}
 -- ---- 8.8: unordered rules of a cleared book commute
 
 pub unordered-commute : (m : Masks) → Cleared m → (i j : ℕ) → i < m.n → j < m.n → (i ≡ j → ⊥)
-    → Unordered (rulesOf m) i j
+    → Unordered (rules_of m) i j
     → commute m i j ≡ true
 unordered-commute m c i j li lj ne u = c.pairs i j li lj ne u i j first second
 
@@ -36,14 +36,14 @@ pub none_before : (m : Masks) → ((r : ℕ) → get_or m.precedes r 0 ≡ 0) �
 none_before m z r s (directly e) = false≢true (sym (ap (λ (x : ℕ). has x s) (z r) ∙ has-zero s) ∙ e)
 none_before m z r s (through {t = t} e w) = false≢true (sym (ap (λ (x : ℕ). has x t) (z r) ∙ has-zero t) ∙ e)
 
-pub no-priorities-commute : (m : Masks) → Cleared m → ((r : ℕ) → get_or m.precedes r 0 ≡ 0)
+pub no_priorities-commute : (m : Masks) → Cleared m → ((r : ℕ) → get_or m.precedes r 0 ≡ 0)
     → (i j : ℕ) → i < m.n → j < m.n → (i ≡ j → ⊥) → commute m i j ≡ true
-no-priorities-commute m c z i j li lj ne = unordered-commute m c i j li lj ne (none_before m z i j, none_before m z j i)
+no_priorities-commute m c z i j li lj ne = unordered-commute m c i j li lj ne (none_before m z i j, none_before m z j i)
 
 -- ---- 8.10: a rule of a cleared book that may trigger another is ordered with it
 
 pub triggers-ordered : (m : Masks) → Orderly m → Cleared m → (i j : ℕ) → i < m.n → j < m.n → (i ≡ j → ⊥)
-    → mayTrigger m i j ≡ true
+    → may_trigger m i j ≡ true
     → Leads m.precedes i j ⊎ Leads m.precedes j i
 triggers-ordered m o c i j li lj ne e = pick (leads p n i j) (leads p n j i) refl refl
   where
@@ -68,7 +68,7 @@ triggers-ordered m o c i j li lj ne e = pick (leads p n i j) (leads p n j i) ref
 -- ---- a book is cleared where every pair i below j passes
 
 pub cleared-below : (m : Masks) → ((r : ℕ) → Faulty m r → ⊥)
-    → ((i j : ℕ) → i < j → j < m.n → Unordered (rulesOf m) i j → Passes (rulesOf m) i j) → Cleared m
+    → ((i j : ℕ) → i < j → j < m.n → Unordered (rules_of m) i j → Passes (rules_of m) i j) → Cleared m
 cleared-below m e p =
     record {
       ends = e;
@@ -76,7 +76,7 @@ cleared-below m e p =
           ⊎_elim
           (λ l. p i j l lj u)
           (λ l. passes-turned (commute-sym m) (p j i (lt_of_le-ne l (λ z. ne (sym z))) li (u.1, u.0)))
-          (lt-or-ge i j);
+          (lt-or_ge i j);
     }
 
 -- ---- rules whose graph has no cycle halt

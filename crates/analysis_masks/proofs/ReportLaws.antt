@@ -17,12 +17,12 @@ use Rattle.mask.specs.Mask.{has}
 use Rattle.mask.proofs.BitsLaws.{ext}
 use Rattle.analysis_pairs.specs.declared.Masks.{Masks}
 use Rattle.analysis_pairs.specs.Rules.{Rules, Unordered}
-use Rattle.analysis_pairs.specs.RuleMasks.{rulesOf}
+use Rattle.analysis_pairs.specs.RuleMasks.{rules_of}
 use Rattle.analysis_pairs.proofs.RulesLaws.{Alike, passes-alike, turned, culprits-unique}
 use Rattle.analysis_masks.specs.declared.Report.{Report}
 use Rattle.analysis_marks.specs.Index.{index}
-use Rattle.analysis_marks.proofs.IndexLaws.{PairAt, pair-at, index-inj}
-use Rattle.analysis_marks.specs.Marks.{Marked, absent, ordered, passes, fails, failsAt, First, FirstOf}
+use Rattle.analysis_marks.proofs.IndexLaws.{PairAt, pair-at, index_inj}
+use Rattle.analysis_marks.specs.Marks.{Marked, absent, ordered, passes, fails, fails_at, First, FirstOf}
 use Rattle.analysis_masks.specs.Report.{Reported}
 
 -- ---- marks
@@ -68,7 +68,7 @@ pub first-unique : {b : Rules} {marks : List ℕ} {i j c o i' j' c' o' : ℕ}
     → First b marks i j c o → First b marks i' j' c' o' → (i ≡ i') × (j ≡ j') × (c ≡ c') × (o ≡ o')
 first-unique {b} {marks} {i} {j} {c} {o} {i'} {j'} {c'} {o'} a d =
     let e : index i j ≡ index i' j' = a.earliest ∙ sym d.earliest in
-    let p : (i ≡ i') × (j ≡ j') = index-inj i j i' j' a.low a.high d.low d.high e in
+    let p : (i ≡ i') × (j ≡ j') = index_inj i j i' j' a.low a.high d.low d.high e in
     let same : First b marks i j c' o' =
     subst (λ (x : ℕ). First b marks i x c' o') (sym p.1)
     (subst (λ (x : ℕ). First b marks x j' c' o') (sym p.0) d) in
@@ -79,15 +79,15 @@ zero-or-more : (k : ℕ) → (k ≡ 0) ⊎ (0 < k)
 zero-or-more zero = inl refl
 zero-or-more (suc k) = inr (omega arith)
 
-firstOf-unique : {b : Rules} {marks : List ℕ} {i j c o i' j' c' o' : ℕ}
+first_of-unique : {b : Rules} {marks : List ℕ} {i j c o i' j' c' o' : ℕ}
     → FirstOf b marks i j c o → FirstOf b marks i' j' c' o' → (i ≡ i') × (j ≡ j') × (c ≡ c') × (o ≡ o')
-firstOf-unique {marks = marks} a d =
+first_of-unique {marks = marks} a d =
     ⊎_elim
     (λ z.
     let p = a.none z in let q = d.none z in
     (p.0 ∙ sym q.0, p.1 ∙ sym q.1, p.2 ∙ sym q.2, p.3 ∙ sym q.3))
     (λ l. first-unique (a.some l) (d.some l))
-    (zero-or-more (count 496 (failsAt marks)))
+    (zero-or-more (count 496 (fails_at marks)))
 
 -- ---- the whole report
 
@@ -138,12 +138,12 @@ unique m r s p q = all
 
     first : (r.first ≡ s.first) × (r.second ≡ s.second) × (r.culprit ≡ s.culprit) × (r.other ≡ s.other)
     first =
-        firstOf-unique p.first
-        (subst (λ (l : List ℕ). FirstOf (rulesOf m) l s.first s.second s.culprit s.other) (sym marks)
+        first_of-unique p.first
+        (subst (λ (l : List ℕ). FirstOf (rules_of m) l s.first s.second s.culprit s.other) (sym marks)
         q.first)
 
     failing : r.failing ≡ s.failing
-    failing = p.failing ∙ ap (λ (l : List ℕ). count 496 (failsAt l)) marks ∙ sym q.failing
+    failing = p.failing ∙ ap (λ (l : List ℕ). count 496 (fails_at l)) marks ∙ sym q.failing
 
     all : r ≡ s
     all =

@@ -6,12 +6,12 @@ use mathlib.Core.Bool.{Bool, true, false, not, false≢true}
 use Prim.Native.Nat.{ℕ, ◌^◌, ◌<◌}
 use native.Mathlib.Nat.{le_trans}
 use lib.Pow.{pow_mono}
-use Rattle.mask.proofs.SearchLaws.{lt-or-ge}
+use Rattle.mask.proofs.SearchLaws.{lt-or_ge}
 use Rattle.mask.specs.Mask.{has}
 use Rattle.analysis_pairs.specs.declared.Masks.{Masks}
 use Rattle.analysis_pairs.specs.Rules.{Rules, Grown, first, second, grow, Unordered}
 use Rattle.analysis_pairs.proofs.RulesLaws.{turned, grown-alike}
-use Rattle.analysis_pairs.specs.RuleMasks.{rulesOf, triggers, mayTrigger}
+use Rattle.analysis_pairs.specs.RuleMasks.{rules_of, triggers, may_trigger}
 use Rattle.analysis_pairs.proofs.RuleMasksLaws.{deaf}
 use Rattle.analysis_pairs.proofs.SettleLaws.{Settled, settle, settled}
 use Rattle.analysis_masks.specs.AnalysisMasksInner.{Orderly}
@@ -21,7 +21,7 @@ use Rattle.analysis_masks.proofs.AlikeLaws.{befores, triggers-rows, alike-rows}
 -- a rule of the set that may trigger r
 pub record From (b : Rules) (set : ℕ → Bool) (r : ℕ) : Type 0 where
   pub by : ℕ
-  pub in-set : set by ≡ true
+  pub in_set : set by ≡ true
   pub may : b.may by r ≡ true
 
 pub record GrownSides (b : Rules) (n i j : ℕ) : Type 0 where
@@ -38,7 +38,7 @@ pub record GrownSides (b : Rules) (n i j : ℕ) : Type 0 where
   pub commute : (r s : ℕ) → one r ≡ true → other s ≡ true → b.commute r s ≡ true
 
 module _ (m : Masks) (o : Orderly m) (c : Cleared m) (i j : ℕ) (li : i < m.n) (lj : j < m.n) (ne : i ≡ j → ⊥)
-    (u : Unordered (rulesOf m) i j) where
+    (u : Unordered (rules_of m) i j) where
   grew : ℕ × ℕ
   grew = settle (triggers m) (befores m) 65 (2 ^ i) (2 ^ j)
 
@@ -49,7 +49,7 @@ module _ (m : Masks) (o : Orderly m) (c : Cleared m) (i j : ℕ) (li : i < m.n) 
       (le_trans li o.few) (le_trans lj o.few)
 
   abbrev GrownIn : Bool → ℕ → Type 0
-  GrownIn side r = Grown (mayTrigger m) (rulesOf m).before i j side r
+  GrownIn side r = Grown (may_trigger m) (rules_of m).before i j side r
 
   member : Bool → ℕ → Bool
   member true r = has grew.0 r
@@ -69,23 +69,23 @@ module _ (m : Masks) (o : Orderly m) (c : Cleared m) (i j : ℕ) (li : i < m.n) 
   low first = li
   low second = lj
   low {r = r} (grow {r = a} g e b h) =
-      ⊎_elim (λ l. l) (λ l. absurd (false≢true (sym (deaf m a r (o.watch r l)) ∙ e))) (lt-or-ge r m.n)
+      ⊎_elim (λ l. l) (λ l. absurd (false≢true (sym (deaf m a r (o.watch r l)) ∙ e))) (lt-or_ge r m.n)
 
   start : Bool → ℕ
   start true = i
   start false = j
 
-  from : {side : Bool} {r : ℕ} → GrownIn side r → (r ≡ start side → ⊥) → From (rulesOf m) (member side) r
+  from : {side : Bool} {r : ℕ} → GrownIn side r → (r ≡ start side → ⊥) → From (rules_of m) (member side) r
   unfolding start
   from first none = absurd (none refl)
   from second none = absurd (none refl)
-  from {side = side} (grow {r = a} g e b h) none = record { by = a; in-set = back side a g; may = e }
+  from {side = side} (grow {r = a} g e b h) none = record { by = a; in_set = back side a g; may = e }
 
-  closed : (side : Bool) (a r t : ℕ) → member side a ≡ true → mayTrigger m a r ≡ true → (rulesOf m).before r t
+  closed : (side : Bool) (a r t : ℕ) → member side a ≡ true → may_trigger m a r ≡ true → (rules_of m).before r t
       → member (not side) t ≡ true → member side r ≡ true
   closed side a r t p e b q = back side r (grow (inside side a p) e b (inside (not side) t q))
 
-  pub sides : GrownSides (rulesOf m) m.n i j
+  pub sides : GrownSides (rules_of m) m.n i j
   unfolding start
   sides =
       record {

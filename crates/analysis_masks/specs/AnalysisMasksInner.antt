@@ -19,8 +19,8 @@ pub record Orderly (m : Masks) : Type 0 where
   pub precedes : Past m.n m.precedes
 
 -- the report that is done, of its summary and its marks
-abbrev pub reportIn : Summary → List ℕ → Report
-reportIn v marks =
+abbrev pub report_in : Summary → List ℕ → Report
+report_in v marks =
     record {
       number = 0;
       place = 255;

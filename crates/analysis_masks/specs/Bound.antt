@@ -1,7 +1,7 @@
 -- The step bound of a set of rules.
 use Rattle.std.specs.Prelude.{◌≡◌, true, false, ℕ}
 use Rattle.mask.specs.Mask.{beyond}
-use Rattle.analysis_weights.specs.Weight.{total, weightOf}
+use Rattle.analysis_weights.specs.Weight.{total, weight_of}
 use Rattle.analysis_pairs.specs.declared.Masks.{Masks}
 use Rattle.analysis_pairs.specs.RuleMasks.{triggers}
 use Rattle.analysis_masks.specs.declared.Bound.{Bound}
@@ -13,4 +13,4 @@ pub record Bounded (m : Masks) (set : ℕ) (b : Bound) : Type 0 where
   pub place : b.place ≡ 255
   pub unfit : beyond set m.n ≡ true → (b.number ≡ 11) × (b.bound ≡ 0)
   pub endless : beyond set m.n ≡ false → (r : ℕ) → Faulty m r → (b.number ≡ 17) × (b.bound ≡ 0)
-  pub done : beyond set m.n ≡ false → ((r : ℕ) → Faulty m r → ⊥) → (b.number ≡ 0) × (b.bound ≡ total 32 set (weightOf (triggers m) m.n))
+  pub done : beyond set m.n ≡ false → ((r : ℕ) → Faulty m r → ⊥) → (b.number ≡ 0) × (b.bound ≡ total 32 set (weight_of (triggers m) m.n))

@@ -3,11 +3,11 @@ use Rattle.std.specs.Prelude.{◌≡◌, ◌↔◌, true, ℕ, ◌<◌, get_or, 
 use Rattle.mask.specs.Search.{count}
 use Rattle.mask.specs.Mask.{has}
 use Rattle.analysis_pairs.specs.declared.Masks.{Masks}
-use Rattle.analysis_pairs.specs.RuleMasks.{rulesOf}
+use Rattle.analysis_pairs.specs.RuleMasks.{rules_of}
 use Rattle.analysis_masks.specs.declared.Report.{Report}
 use Rattle.analysis_marks.specs.Index.{index}
 use Rattle.analysis_masks.specs.Cleared.{Faulty, Cleared}
-use Rattle.analysis_marks.specs.Marks.{FirstOf, Marked, failsAt}
+use Rattle.analysis_marks.specs.Marks.{FirstOf, Marked, fails_at}
 
 -- the report: number and place say that it is done
 pub record Reported (m : Masks) (r : Report) : Type 0 where
@@ -16,6 +16,6 @@ pub record Reported (m : Masks) (r : Report) : Type 0 where
   pub cleared : (r.cleared ≡ true) ↔ Cleared m
   pub faulty : (x : ℕ) → (has r.faulty x ≡ true) ↔ Faulty m x
   pub size : length r.marks ≡ 496
-  pub marks : (i j : ℕ) → i < j → j < 32 → Marked (rulesOf m) m.n i j (get_or r.marks (index i j) 0)
-  pub failing : r.failing ≡ count 496 (failsAt r.marks)
-  pub first : FirstOf (rulesOf m) r.marks r.first r.second r.culprit r.other
+  pub marks : (i j : ℕ) → i < j → j < 32 → Marked (rules_of m) m.n i j (get_or r.marks (index i j) 0)
+  pub failing : r.failing ≡ count 496 (fails_at r.marks)
+  pub first : FirstOf (rules_of m) r.marks r.first r.second r.culprit r.other

@@ -1,6 +1,6 @@
 // The report on rules: whether they are cleared, which are at fault, and how every pair is judged.
 ghost use Rattle.std.specs.Prelude.{◌≡◌};
-ghost use Rattle.analysis_masks.specs.AnalysisMasksInner.{reportIn};
+ghost use Rattle.analysis_masks.specs.AnalysisMasksInner.{report_in};
 
 pub mod rows;
 
@@ -42,7 +42,7 @@ pub struct Bound {
 
 // The report that is done, of its summary and its marks.
 pub fn whole(v: Summary, marks: &[u8; 496]) -> Report
-    ensures { result ≡ reportIn v marks.now }
+    ensures { result ≡ report_in v marks.now }
 {
     let copied = *marks;
     Report {

@@ -2,9 +2,9 @@
 ghost use Rattle.std.specs.Prelude.{◌≡◌, ℕ, ◌≤◌};
 ghost use Rattle.mask.specs.Mask.{has};
 ghost use Rattle.graph.specs.Graph.{leads};
-ghost use Rattle.analysis_pairs.specs.AnalysisPairsInner.{masksIn, triggering};
-ghost use Rattle.analysis_masks.specs.AnalysisMasksInner.{Orderly, reportIn};
-ghost use Rattle.analysis_marks.specs.AnalysisMarksInner.{noMarks};
+ghost use Rattle.analysis_pairs.specs.AnalysisPairsInner.{masks_in, triggering};
+ghost use Rattle.analysis_masks.specs.AnalysisMasksInner.{Orderly, report_in};
+ghost use Rattle.analysis_marks.specs.AnalysisMarksInner.{no_marks};
 ghost use Rattle.analysis_masks.specs.Report.{Reported};
 ghost use Rattle.analysis_masks.specs.Bound.{Bounded};
 
@@ -28,8 +28,8 @@ pub fn judged(
     precedes: &[u32; 32],
     marks: &mut [u8; 496],
 ) -> Summary
-    requires { Orderly (masksIn n watch.now reads.now writes.now precedes.now) × (marks.old ≡ noMarks) }
-    ensures { Reported (masksIn n watch.now reads.now writes.now precedes.now) (reportIn result marks.new) }
+    requires { Orderly (masks_in n watch.now reads.now writes.now precedes.now) × (marks.old ≡ no_marks) }
+    ensures { Reported (masks_in n watch.now reads.now writes.now precedes.now) (report_in result marks.new) }
 {
     let trig = analysis_pairs::triggers(watch, writes, n);
     let clash = analysis_pairs::clashes(watch, reads, writes, n);

@@ -8,7 +8,7 @@ use lib.Dec.{eqb}
 use lib.ListN.{get_or}
 use Rattle.mask.specs.Mask.{meet}
 use Rattle.analysis_pairs.specs.declared.Masks.{Masks}
-use Rattle.analysis_pairs.specs.RuleMasks.{mayTrigger, writesInto, commute}
+use Rattle.analysis_pairs.specs.RuleMasks.{may_trigger, writes_into, commute}
 use Rattle.analysis_pairs.proofs.RuleMasksLaws.{meet_comm, meet-or, eqb_comm, free}
 use Rattle.analysis_pairs.specs.AnalysisPairsInner.{Touches, clashing}
 
@@ -40,11 +40,11 @@ strike own watch reads watch' reads' writes' e =
     ∙ table (meet watch' own) (meet writes' watch) (meet reads' own) (meet writes' own) (meet writes' reads) e
     ∙ cc (meet_comm writes' watch, meet_comm reads' own, meet_comm writes' own)
 
-pub clash-law : (m : Masks) (touched : List ℕ)
+pub clash_law : (m : Masks) (touched : List ℕ)
     → ((r : ℕ) → r < 32 → Touches m.watch m.reads m.writes r (get_or touched r 0))
     → (i s : ℕ) → i < 32 → s < 32 → clashing touched m.writes i s ≡ not (commute m i s)
-unfolding clashing commute mayTrigger writesInto
-clash-law m touched h i s li ls =
+unfolding clashing commute may_trigger writes_into
+clash_law m touched h i s li ls =
     ap₂ (λ (x y : ℕ). (meet x (get_or m.writes i 0) || meet (get_or m.writes s 0) y) && not (eqb s i)) (h s ls) (h i li)
     ∙ strike (get_or m.writes i 0) (get_or m.watch i 0) (get_or m.reads i 0) (get_or m.watch s 0)
     (get_or m.reads s 0) (get_or m.writes s 0) (eqb s i)

@@ -9,10 +9,10 @@ use lib.Dec.{eqb}
 use lib.ListN.{get_or}
 use borrow.Author.Tests.{eqb-true, eq-eqb}
 use Rattle.mask.specs.Search.{some}
-use Rattle.mask.proofs.SearchLaws.{Found, some-intro, some-elim, or-true-cases, and-true-both}
+use Rattle.mask.proofs.SearchLaws.{Found, some_intro, some-elim, or_true_cases, and_true_both}
 use Rattle.mask.specs.Mask.{has, meet}
 use Rattle.mask.proofs.BitsLaws.{has-lt}
-use Rattle.mask.proofs.MaskLaws.{subset-le}
+use Rattle.mask.proofs.MaskLaws.{subset_le}
 use Rattle.graph.specs.GraphInner.{Edge}
 use Rattle.analysis_pairs.specs.Rules.{first, second, grow}
 use Rattle.analysis_pairs.specs.AnalysisPairsInner.{grows, RowsGrown, Grew}
@@ -30,13 +30,13 @@ only_step trig before i j side a b c ha hb hc s e =
     ⊎_elim (ha s)
     (λ h.
     let w : (some 32 (λ x. has a x && has (get_or trig x 0) s) ≡ true) × (meet (get_or before s 0) b ≡ true) =
-    and-true-both _ _ h in
+    and_true_both _ _ h in
     let x : Found 32 (λ x. has a x && has (get_or trig x 0) s) = some-elim 32 _ w.0 in
     let y : Found 32 (λ t. has (get_or before s 0) t && has b t) = some-elim 32 _ w.1 in
-    let p : (has a x.at ≡ true) × (has (get_or trig x.at 0) s ≡ true) = and-true-both _ _ x.is in
-    let q : (has (get_or before s 0) y.at ≡ true) × (has b y.at ≡ true) = and-true-both _ _ y.is in
+    let p : (has a x.at ≡ true) × (has (get_or trig x.at 0) s ≡ true) = and_true_both _ _ x.is in
+    let q : (has (get_or before s 0) y.at ≡ true) × (has b y.at ≡ true) = and_true_both _ _ y.is in
     grow (ha x.at p.0) p.1 q.0 (hb y.at q.1))
-    (or-true-cases _ _ (sym (hc s) ∙ e))
+    (or_true_cases _ _ (sym (hc s) ∙ e))
 
 -- ---- where nothing changes any more, all is in
 
@@ -52,8 +52,8 @@ module _ (trig before : List ℕ) (i j a b : ℕ) (fa : a < 2 ^ 32) (fb : b < 2 
   unfolding grows meet
   grows_in x y r s t fx fy hr e f ht =
       ap₂ (λ (u v : Bool). has x s || (u && v))
-      (some-intro 32 (λ z. has x z && has (get_or trig z 0) s) r (has-lt 32 r fx hr) (ap₂ ◌&&◌ hr e))
-      (some-intro 32 (λ z. has (get_or before s 0) z && has y z) t (has-lt 32 t fy ht) (ap₂ ◌&&◌ f ht))
+      (some_intro 32 (λ z. has x z && has (get_or trig z 0) s) r (has-lt 32 r fx hr) (ap₂ ◌&&◌ hr e))
+      (some_intro 32 (λ z. has (get_or before s 0) z && has y z) t (has-lt 32 t fy ht) (ap₂ ◌&&◌ f ht))
       ∙ or-true (has x s)
 
   complete : (side : Bool) (s : ℕ) → RowsGrown trig before i j side s → has (on side a b) s ≡ true
@@ -75,9 +75,9 @@ pub record Growing (trig before : List ℕ) (i j a b : ℕ) : Type 0 where
   pub sa : OnlyGrown trig before i j true a
   pub sb : OnlyGrown trig before i j false b
 
-pub growing-start : (trig before : List ℕ) (i j a b : ℕ) → a < 2 ^ 32 → b < 2 ^ 32
+pub growing_start : (trig before : List ℕ) (i j a b : ℕ) → a < 2 ^ 32 → b < 2 ^ 32
     → ((k : ℕ) → has a k ≡ eqb k i) → ((k : ℕ) → has b k ≡ eqb k j) → Growing trig before i j a b
-growing-start trig before i j a b fa fb ha hb =
+growing_start trig before i j a b fa fb ha hb =
     record {
       fa = fa;
       fb = fb;
@@ -94,8 +94,8 @@ grows-keeps trig before a b s e =
 
 module _ {trig before : List ℕ} {i j a b : ℕ} (g : Growing trig before i j a b) (c d : ℕ)
     (hc : (s : ℕ) → has c s ≡ grows trig before a b s) (hd : (s : ℕ) → has d s ≡ grows trig before b a s) where
-  pub growing-turn : c < 2 ^ 32 → d < 2 ^ 32 → Growing trig before i j c d
-  growing-turn fc fd =
+  pub growing_turn : c < 2 ^ 32 → d < 2 ^ 32 → Growing trig before i j c d
+  growing_turn fc fd =
       record {
         fa = fc;
         fb = fd;
@@ -105,14 +105,14 @@ module _ {trig before : List ℕ} {i j a b : ℕ} (g : Growing trig before i j a
         sb = only_step trig before i j false b a d g.sb g.sa hd;
       }
 
-  pub growing-more : ((s : ℕ) → has a s ≡ true → has c s ≡ true) × ((s : ℕ) → has b s ≡ true → has d s ≡ true)
-  growing-more = (λ s e. hc s ∙ grows-keeps trig before a b s e, λ s e. hd s ∙ grows-keeps trig before b a s e)
+  pub growing_more : ((s : ℕ) → has a s ≡ true → has c s ≡ true) × ((s : ℕ) → has b s ≡ true → has d s ≡ true)
+  growing_more = (λ s e. hc s ∙ grows-keeps trig before a b s e, λ s e. hd s ∙ grows-keeps trig before b a s e)
 
-  pub growing-le : c < 2 ^ 32 → d < 2 ^ 32 → (a ≤ c) × (b ≤ d)
-  growing-le fc fd = (subset-le a c g.fa fc growing-more.0, subset-le b d g.fb fd growing-more.1)
+  pub growing_le : c < 2 ^ 32 → d < 2 ^ 32 → (a ≤ c) × (b ≤ d)
+  growing_le fc fd = (subset_le a c g.fa fc growing_more.0, subset_le b d g.fb fd growing_more.1)
 
-  pub growing-end : c ≡ a → d ≡ b → Grew trig before i j a b
-  growing-end p q =
+  pub growing_end : c ≡ a → d ≡ b → Grew trig before i j a b
+  growing_end p q =
       let ga : (s : ℕ) → has a s ≡ grows trig before a b s = λ s. ap (λ (x : ℕ). has x s) (sym p) ∙ hc s in
       let gb : (s : ℕ) → has b s ≡ grows trig before b a s = λ s. ap (λ (x : ℕ). has x s) (sym q) ∙ hd s in
       record {

@@ -2,21 +2,21 @@
 use mathlib.Core.Path.{◌≡◌, refl}
 use mathlib.Core.List.{[]}
 use Rattle.analysis_pairs.specs.declared.Masks.{Masks}
-use Rattle.analysis_pairs.specs.RuleMasks.{mayTrigger, writesInto, commute, triggers}
-use Rattle.analysis_pairs.specs.AnalysisPairsInner.{clashes, masksIn, triggering, triggersIn, clashesIn}
+use Rattle.analysis_pairs.specs.RuleMasks.{may_trigger, writes_into, commute, triggers}
+use Rattle.analysis_pairs.specs.AnalysisPairsInner.{clashes, masks_in, triggering, triggers_in, clashes_in}
 
-pub may-in : (m : Masks) → mayTrigger (triggering 0 m.watch m.writes) ≡ mayTrigger m
-unfolding mayTrigger
-may-in m = refl
+pub may_in : (m : Masks) → may_trigger (triggering 0 m.watch m.writes) ≡ may_trigger m
+unfolding may_trigger
+may_in m = refl
 
-pub triggers-in : (m : Masks) → triggersIn m.watch m.writes ≡ triggers m
-unfolding triggers mayTrigger
-triggers-in m = refl
+pub triggers_in_lem : (m : Masks) → triggers_in m.watch m.writes ≡ triggers m
+unfolding triggers may_trigger
+triggers_in_lem m = refl
 
-pub commute-in : (m : Masks) → commute (masksIn 0 m.watch m.reads m.writes []) ≡ commute m
-unfolding commute mayTrigger writesInto
-commute-in m = refl
+pub commute_in : (m : Masks) → commute (masks_in 0 m.watch m.reads m.writes []) ≡ commute m
+unfolding commute may_trigger writes_into
+commute_in m = refl
 
-pub clashes-in : (m : Masks) → clashesIn m.watch m.reads m.writes ≡ clashes m
-unfolding clashes commute mayTrigger writesInto
-clashes-in m = refl
+pub clashes_in_lem : (m : Masks) → clashes_in m.watch m.reads m.writes ≡ clashes m
+unfolding clashes commute may_trigger writes_into
+clashes_in_lem m = refl

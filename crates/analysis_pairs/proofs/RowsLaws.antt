@@ -8,72 +8,72 @@ use native.Mathlib.Nat.{le_trans}
 use lib.ListN.{length, get_or, replicate, length-replicate, get_or-replicate, get_or-eq_default}
 use lib.Pow.{pow_pos}
 use lib.Seq.{ext_get_or}
-use Rattle.mask.proofs.SearchLaws.{lt-or-ge}
+use Rattle.mask.proofs.SearchLaws.{lt-or_ge}
 use Rattle.mask.specs.Mask.{has, mask_of}
 use Rattle.mask.proofs.BitsLaws.{has-zero, has-high}
 use Rattle.mask.specs.MaskInner.{Upto}
-use Rattle.mask.proofs.LoopsLaws.{picked_all, maskOf-picked, maskOf-lt, maskOf-unique}
+use Rattle.mask.proofs.LoopsLaws.{picked_all, mask_of_picked, mask_of-lt, mask_of-unique}
 use Rattle.graph.specs.GraphInner.{Rows}
 use Rattle.rule.specs.Fill.{upto}
-use Rattle.rule.proofs.FillLaws.{length-upto, getD-upto}
-use Rattle.analysis_pairs.specs.RuleMasks.{masksBy}
+use Rattle.rule.proofs.FillLaws.{length-upto, get_or-upto}
+use Rattle.analysis_pairs.specs.RuleMasks.{masks_by}
 use Rattle.analysis_pairs.specs.AnalysisPairsInner.{Among}
 
 pub turned-within : {n : ℕ} {f : ℕ → ℕ → Bool} → Among n f → Among n (λ r s. f s r)
 turned-within w = record { from = λ r s. w.to s r; to = λ r s. w.from s r }
 
-pub rows-length : (f : ℕ → ℕ → Bool) → length (masksBy f) ≡ 32
-unfolding masksBy
+pub rows-length : (f : ℕ → ℕ → Bool) → length (masks_by f) ≡ 32
+unfolding masks_by
 rows-length f = length-upto 32 (λ r. mask_of 32 (f r))
 
-rows_at : (f : ℕ → ℕ → Bool) (r : ℕ) → r < 32 → get_or (masksBy f) r 0 ≡ mask_of 32 (f r)
-unfolding masksBy
-rows_at f r l = getD-upto 32 (λ r. mask_of 32 (f r)) 0 r l
+rows_at : (f : ℕ → ℕ → Bool) (r : ℕ) → r < 32 → get_or (masks_by f) r 0 ≡ mask_of 32 (f r)
+unfolding masks_by
+rows_at f r l = get_or-upto 32 (λ r. mask_of 32 (f r)) 0 r l
 
-pub rows-past : (f : ℕ → ℕ → Bool) (r : ℕ) → 32 ≤ r → get_or (masksBy f) r 0 ≡ 0
-unfolding masksBy
+pub rows-past : (f : ℕ → ℕ → Bool) (r : ℕ) → 32 ≤ r → get_or (masks_by f) r 0 ≡ 0
+unfolding masks_by
 rows-past f r l = get_or-eq_default (upto 32 (λ r. mask_of 32 (f r))) 0 {n = r} l
 
-pub rows-lt : (f : ℕ → ℕ → Bool) → Rows 32 (masksBy f)
+pub rows-lt : (f : ℕ → ℕ → Bool) → Rows 32 (masks_by f)
 rows-lt f r =
-    ⊎_elim (λ l. rw (rows_at f r l) (maskOf-lt 32 (f r))) (λ l. rw (rows-past f r l) (pow_pos 32)) (lt-or-ge r 32)
+    ⊎_elim (λ l. rw (rows_at f r l) (mask_of-lt 32 (f r))) (λ l. rw (rows-past f r l) (pow_pos 32)) (lt-or_ge r 32)
 
 -- below 32 a relation is read back
-pub rows-within : (f : ℕ → ℕ → Bool) (r s : ℕ) → r < 32 → s < 32 → has (get_or (masksBy f) r 0) s ≡ f r s
+pub rows-within : (f : ℕ → ℕ → Bool) (r s : ℕ) → r < 32 → s < 32 → has (get_or (masks_by f) r 0) s ≡ f r s
 rows-within f r s l k =
-    ap (λ (m : ℕ). has m s) (rows_at f r l) ∙ picked_all (f r) 32 (mask_of 32 (f r)) (maskOf-picked 32 (f r)) s k
+    ap (λ (m : ℕ). has m s) (rows_at f r l) ∙ picked_all (f r) 32 (mask_of 32 (f r)) (mask_of_picked 32 (f r)) s k
 
 -- a relation of numbers below 32 is read back everywhere
 pub rows-has : (f : ℕ → ℕ → Bool) → ((r s : ℕ) → 32 ≤ r → f r s ≡ false) → ((r s : ℕ) → 32 ≤ s → f r s ≡ false)
-    → (r s : ℕ) → has (get_or (masksBy f) r 0) s ≡ f r s
+    → (r s : ℕ) → has (get_or (masks_by f) r 0) s ≡ f r s
 rows-has f out out' r s =
     ⊎_elim
     (λ l.
     ⊎_elim
     (rows-within f r s l)
     (λ k. has-high 32 s (rows-lt f r) k ∙ sym (out' r s k))
-    (lt-or-ge s 32))
+    (lt-or_ge s 32))
     (λ l. ap (λ (m : ℕ). has m s) (rows-past f r l) ∙ has-zero s ∙ sym (out r s l))
-    (lt-or-ge r 32)
+    (lt-or_ge r 32)
 
 -- v is mask r of the row
 abbrev pub Row : (ℕ → ℕ → Bool) → ℕ → ℕ → Type 0
 Row f r v = (v < 2 ^ 32) × ((s : ℕ) → s < 32 → has v s ≡ f r s)
 
 -- only one row has these masks
-pub rows-only : (f : ℕ → ℕ → Bool) (t : List ℕ) → length t ≡ 32 → ((r : ℕ) → r < 32 → Row f r (get_or t r 0)) → t ≡ masksBy f
-rows-only f t e h =
-    ext_get_or 0 t (masksBy f) (e ∙ sym (rows-length f)) (λ r l.
+pub rows_only : (f : ℕ → ℕ → Bool) (t : List ℕ) → length t ≡ 32 → ((r : ℕ) → r < 32 → Row f r (get_or t r 0)) → t ≡ masks_by f
+rows_only f t e h =
+    ext_get_or 0 t (masks_by f) (e ∙ sym (rows-length f)) (λ r l.
     let l' : r < 32 = rw e at l in
-    maskOf-unique 32 (f r) (get_or t r 0) (h r l').0 (h r l').1 ∙ sym (rows_at f r l'))
+    mask_of-unique 32 (f r) (get_or t r 0) (h r l').0 (h r l').1 ∙ sym (rows_at f r l'))
 
 -- zeros of which the first k are filled with these masks are the row, where it is of numbers below k
 pub rows-by : (f : ℕ → ℕ → Bool) (n : ℕ) → Among n f → (P : ℕ → ℕ → Type 0) → ((r v : ℕ) → r < 32 → P r v → Row f r v)
-    → (k : ℕ) (t : List ℕ) → n ≤ k → Upto P (replicate 32 0) k t → t ≡ masksBy f
+    → (k : ℕ) (t : List ℕ) → n ≤ k → Upto P (replicate 32 0) k t → t ≡ masks_by f
 rows-by f n w P is k t h u =
-    rows-only f t (u.len ∙ length-replicate {A = ℕ} 32 0) (λ r l.
+    rows_only f t (u.len ∙ length-replicate {A = ℕ} 32 0) (λ r l.
     ⊎_elim (λ m. is r (get_or t r 0) l (u.done r m))
     (λ m.
     subst (Row f r) (sym (u.rest r m ∙ get_or-replicate {A = ℕ} 32 r 0 0 l))
     (pow_pos 32, λ s b. has-zero s ∙ sym (w.from r s (le_trans h m))))
-    (lt-or-ge r k))
+    (lt-or_ge r k))

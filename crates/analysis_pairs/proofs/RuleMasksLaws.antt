@@ -8,12 +8,12 @@ use lib.Dec.{eqb}
 use lib.ListN.{get_or}
 use borrow.Author.Tests.{eq-eqb, ne_eqb, eqb-true, not-true}
 use Rattle.mask.specs.Search.{some}
-use Rattle.mask.proofs.SearchLaws.{some_same, same_test, and-true-both}
+use Rattle.mask.proofs.SearchLaws.{some_same, same_test, and_true_both}
 use Rattle.mask.specs.Mask.{has, meet}
 use Rattle.mask.proofs.MaskLaws.{meet-zero}
 use Rattle.mask.proofs.BitsLaws.{has-or}
 use Rattle.analysis_pairs.specs.declared.Masks.{Masks}
-use Rattle.analysis_pairs.specs.RuleMasks.{mayTrigger, writesInto, commute}
+use Rattle.analysis_pairs.specs.RuleMasks.{may_trigger, writes_into, commute}
 
 -- ---- sets that meet
 
@@ -56,32 +56,32 @@ swap false false false c d = and_comm (not c) (not d)
 
 -- neither may trigger the other, and neither writes into the other
 abbrev pub free : Masks → ℕ → ℕ → Bool
-free m r s = not (mayTrigger m r s) && not (mayTrigger m s r) && not (writesInto m r s) && not (writesInto m s r)
+free m r s = not (may_trigger m r s) && not (may_trigger m s r) && not (writes_into m r s) && not (writes_into m s r)
 
 pub commute-sym : (m : Masks) (r s : ℕ) → commute m r s ≡ commute m s r
 unfolding commute
 commute-sym m r s =
-    swap (eqb r s) (mayTrigger m r s) (mayTrigger m s r) (writesInto m r s) (writesInto m s r)
+    swap (eqb r s) (may_trigger m r s) (may_trigger m s r) (writes_into m r s) (writes_into m s r)
     ∙ ap (λ (e : Bool). e || free m s r) (eqb_comm r s)
 
 -- a rule that may trigger another does not commute with it
-pub triggers-clash : (m : Masks) (r s : ℕ) → (r ≡ s → ⊥) → mayTrigger m r s ≡ true → commute m r s ≡ false
+pub triggers-clash : (m : Masks) (r s : ℕ) → (r ≡ s → ⊥) → may_trigger m r s ≡ true → commute m r s ≡ false
 unfolding commute
 triggers-clash m r s ne e = rw (ne_eqb r s ne, e)
 
 -- ---- rules with empty masks: they trigger nothing, nothing triggers them, and they commute with all
 
-pub quiet : (m : Masks) (r s : ℕ) → get_or m.writes r 0 ≡ 0 → mayTrigger m r s ≡ false
-unfolding mayTrigger
+pub quiet : (m : Masks) (r s : ℕ) → get_or m.writes r 0 ≡ 0 → may_trigger m r s ≡ false
+unfolding may_trigger
 quiet m r s e = ap (meet (get_or m.watch s 0)) e ∙ meet-none (get_or m.watch s 0)
 
-pub deaf : (m : Masks) (r s : ℕ) → get_or m.watch s 0 ≡ 0 → mayTrigger m r s ≡ false
-unfolding mayTrigger
+pub deaf : (m : Masks) (r s : ℕ) → get_or m.watch s 0 ≡ 0 → may_trigger m r s ≡ false
+unfolding may_trigger
 deaf m r s e = ap (λ (x : ℕ). meet x (get_or m.writes r 0)) e ∙ meet-zero (get_or m.writes r 0)
 
 pub absent-commutes : (m : Masks) (r s : ℕ) → get_or m.watch s 0 ≡ 0 → get_or m.reads s 0 ≡ 0 → get_or m.writes s 0 ≡ 0
     → commute m r s ≡ true
-unfolding commute writesInto
+unfolding commute writes_into
 absent-commutes m r s a b c =
     let x : meet (get_or m.writes r 0) 0 ≡ false = meet-none (get_or m.writes r 0) in
     let y : meet 0 (get_or m.reads r 0) ≡ false = meet-zero (get_or m.reads r 0) in
@@ -91,23 +91,23 @@ absent-commutes m r s a b c =
 -- ---- what commuting says of two different rules
 
 pub record Apart (m : Masks) (r s : ℕ) : Type 0 where
-  pub may : mayTrigger m r s ≡ false
-  pub back : mayTrigger m s r ≡ false
-  pub writes : writesInto m r s ≡ false
-  pub writes-back : writesInto m s r ≡ false
+  pub may : may_trigger m r s ≡ false
+  pub back : may_trigger m s r ≡ false
+  pub writes : writes_into m r s ≡ false
+  pub writes-back : writes_into m s r ≡ false
 
 pub commute-apart : (m : Masks) (r s : ℕ) → (r ≡ s → ⊥) → commute m r s ≡ true → Apart m r s
 unfolding commute
 commute-apart m r s ne e =
     let h : free m r s ≡ true = sym (ap (λ (x : Bool). x || free m r s) (ne_eqb r s ne)) ∙ e in
     let p =
-    and-true-both (not (mayTrigger m r s) && not (mayTrigger m s r) && not (writesInto m r s))
-    (not (writesInto m s r)) h in
-    let q = and-true-both (not (mayTrigger m r s) && not (mayTrigger m s r)) (not (writesInto m r s)) p.0 in
-    let t = and-true-both (not (mayTrigger m r s)) (not (mayTrigger m s r)) q.0 in
+    and_true_both (not (may_trigger m r s) && not (may_trigger m s r) && not (writes_into m r s))
+    (not (writes_into m s r)) h in
+    let q = and_true_both (not (may_trigger m r s) && not (may_trigger m s r)) (not (writes_into m r s)) p.0 in
+    let t = and_true_both (not (may_trigger m r s)) (not (may_trigger m s r)) q.0 in
     record {
-      may = not-true (mayTrigger m r s) t.0;
-      back = not-true (mayTrigger m s r) t.1;
-      writes = not-true (writesInto m r s) q.1;
-      writes-back = not-true (writesInto m s r) p.1;
+      may = not-true (may_trigger m r s) t.0;
+      back = not-true (may_trigger m s r) t.1;
+      writes = not-true (writes_into m r s) q.1;
+      writes-back = not-true (writes_into m s r) p.1;
     }

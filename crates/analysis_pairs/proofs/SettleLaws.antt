@@ -11,14 +11,14 @@ use lib.ListN.{get_or}
 use lib.Pow.{pow-lt}
 use borrow.Author.Tests.{eqb-true, eq-eqb, not-true}
 use Rattle.mask.specs.Search.{some, count}
-use Rattle.mask.proofs.SearchLaws.{Found, some-elim, some-none, some-false, and-true-both, count-lt, count-le, count-max}
+use Rattle.mask.proofs.SearchLaws.{Found, some-elim, some-none, some_false, and_true_both, count-lt, count-le, count-max}
 use Rattle.mask.specs.Mask.{has, meet, mask_of}
-use Rattle.mask.proofs.BitsLaws.{has-high, has-bit, has-lt}
+use Rattle.mask.proofs.BitsLaws.{has-high, has_bit, has-lt}
 use Rattle.mask.proofs.MaskLaws.{ext_iff}
-use Rattle.mask.proofs.LoopsLaws.{picked-every, maskOf-picked, maskOf-lt}
+use Rattle.mask.proofs.LoopsLaws.{picked_every, mask_of_picked, mask_of-lt}
 use Rattle.graph.specs.GraphInner.{Rows}
 use Rattle.analysis_pairs.specs.AnalysisPairsInner.{grows, Grew}
-use Rattle.analysis_pairs.proofs.GrowingLaws.{Growing, growing-start, growing-turn, growing-more, growing-end}
+use Rattle.analysis_pairs.proofs.GrowingLaws.{Growing, growing_start, growing_turn, growing_more, growing_end}
 
 -- at most k rounds
 unfoldable pub settle : List ℕ → List ℕ → ℕ → ℕ → ℕ → ℕ × ℕ
@@ -38,14 +38,14 @@ more a c fa fc h = pick (some 32 (λ s. has c s && not (has a s))) refl
     pick true e =
         let w : Found 32 (λ s. has c s && not (has a s)) = some-elim 32 (λ s. has c s && not (has a s)) e in
         let p : (has c w.at ≡ true) × (not (has a w.at) ≡ true) =
-        and-true-both (has c w.at) (not (has a w.at)) w.is in
+        and_true_both (has c w.at) (not (has a w.at)) w.is in
         inr (count-lt 32 (has a) (has c) w.at w.lt (not-true (has a w.at) p.1) p.0 h)
     pick false e = inl (ext_iff c a fc fa (λ s m. held s m (has a s) refl) h)
       where
         held : (s : ℕ) → has c s ≡ true → (t : Bool) → has a s ≡ t → has a s ≡ true
         held s m true q = q
         held s m false q =
-            absurd (false≢true (sym (some-false 32 (λ s. has c s && not (has a s)) e s (has-lt 32 s fc m))
+            absurd (false≢true (sym (some_false 32 (λ s. has c s && not (has a s)) e s (has-lt 32 s fc m))
             ∙ ap₂ (λ (x y : Bool). x && not y) m q))
 
 module _ (trig before : List ℕ) (i j : ℕ) (rows : Rows 32 trig) where
@@ -58,8 +58,8 @@ module _ (trig before : List ℕ) (i j : ℕ) (rows : Rows 32 trig) where
 
   round : (a b : ℕ) → a < 2 ^ 32 → (s : ℕ) → has (mask_of 32 (grows trig before a b)) s ≡ grows trig before a b s
   round a b fa =
-      picked-every (grows trig before a b) 32 (mask_of 32 (grows trig before a b))
-      (maskOf-picked 32 (grows trig before a b)) (high a b fa)
+      picked_every (grows trig before a b) 32 (mask_of 32 (grows trig before a b))
+      (mask_of_picked 32 (grows trig before a b)) (high a b fa)
 
   pub record Settled (p : ℕ × ℕ) : Type 0 where
     pub grew : Grew trig before i j p.0 p.1
@@ -71,7 +71,7 @@ module _ (trig before : List ℕ) (i j : ℕ) (rows : Rows 32 trig) where
   unfolding settle
   settle-done zero a b g l =
       let f : ⊥ = omega (arith, count-max 32 (has a), count-max 32 (has b)) in absurd f
-  settle-done (suc k) a b g l = pick (eqb c a && eqb d b) refl (settle-done k c d (growing-turn g c d hc hd fc fd))
+  settle-done (suc k) a b g l = pick (eqb c a && eqb d b) refl (settle-done k c d (growing_turn g c d hc hd fc fd))
     where
       c : ℕ
       c = mask_of 32 (grows trig before a b)
@@ -86,33 +86,33 @@ module _ (trig before : List ℕ) (i j : ℕ) (rows : Rows 32 trig) where
       hd = round b a g.fb
 
       fc : c < 2 ^ 32
-      fc = maskOf-lt 32 (grows trig before a b)
+      fc = mask_of-lt 32 (grows trig before a b)
 
       fd : d < 2 ^ 32
-      fd = maskOf-lt 32 (grows trig before b a)
+      fd = mask_of-lt 32 (grows trig before b a)
 
       fewer : (eqb c a && eqb d b) ≡ false → count 32 (has a) + count 32 (has b) < count 32 (has c) + count 32 (has d)
       fewer e =
-          let up : count 32 (has a) ≤ count 32 (has c) = count-le 32 (has a) (has c) (growing-more g c d hc hd).0 in
-          let up' : count 32 (has b) ≤ count 32 (has d) = count-le 32 (has b) (has d) (growing-more g c d hc hd).1 in
+          let up : count 32 (has a) ≤ count 32 (has c) = count-le 32 (has a) (has c) (growing_more g c d hc hd).0 in
+          let up' : count 32 (has b) ≤ count 32 (has d) = count-le 32 (has b) (has d) (growing_more g c d hc hd).1 in
           ⊎_elim
           (λ p.
           ⊎_elim
           (λ q. absurd (false≢true (sym e ∙ ap₂ ◌&&◌ (eq-eqb c a p) (eq-eqb d b q))))
           (λ q. omega arith)
-          (more b d g.fb fd (growing-more g c d hc hd).1))
+          (more b d g.fb fd (growing_more g c d hc hd).1))
           (λ p. omega arith)
-          (more a c g.fa fc (growing-more g c d hc hd).0)
+          (more a c g.fa fc (growing_more g c d hc hd).0)
 
       pick : (t : Bool) → (eqb c a && eqb d b) ≡ t
           → (64 < k + (count 32 (has c) + count 32 (has d)) → Settled (settle trig before k c d))
           → Settled (cond t (a, b) (settle trig before k c d))
       pick true q next =
-          let w : (eqb c a ≡ true) × (eqb d b ≡ true) = and-true-both (eqb c a) (eqb d b) q in
-          record { grew = growing-end g c d hc hd (eqb-true c a w.0) (eqb-true d b w.1); fa = g.fa; fb = g.fb }
+          let w : (eqb c a ≡ true) × (eqb d b ≡ true) = and_true_both (eqb c a) (eqb d b) q in
+          record { grew = growing_end g c d hc hd (eqb-true c a w.0) (eqb-true d b w.1); fa = g.fa; fb = g.fb }
       pick false q next = next (omega (arith, fewer q))
 
   pub settled : i < 32 → j < 32 → Settled (settle trig before 65 (2 ^ i) (2 ^ j))
   settled li lj =
       settle-done 65 (2 ^ i) (2 ^ j)
-      (growing-start trig before i j (2 ^ i) (2 ^ j) (pow-lt li) (pow-lt lj) (has-bit i) (has-bit j)) (omega arith)
+      (growing_start trig before i j (2 ^ i) (2 ^ j) (pow-lt li) (pow-lt lj) (has_bit i) (has_bit j)) (omega arith)

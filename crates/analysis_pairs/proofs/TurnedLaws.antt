@@ -8,15 +8,15 @@ use lib.Dec.{eqb}
 use lib.ListN.{get_or}
 use borrow.Author.Tests.{eq-eqb, eqb-true}
 use Rattle.mask.specs.Search.{some}
-use Rattle.mask.proofs.SearchLaws.{Found, some_same, some-intro, some-elim, same_test, and-true-both, lt-or-ge}
+use Rattle.mask.proofs.SearchLaws.{Found, some_same, some_intro, some-elim, same_test, and_true_both, lt-or_ge}
 use Rattle.mask.specs.Mask.{has, meet}
 use Rattle.mask.proofs.MaskLaws.{meet-zero}
 use Rattle.mask.proofs.BitsLaws.{has-high}
-use Rattle.analysis_pairs.specs.AnalysisPairsInner.{edge, turnedOf, Mutual}
+use Rattle.analysis_pairs.specs.AnalysisPairsInner.{edge, turned_of, Mutual}
 use Rattle.analysis_pairs.proofs.RowsLaws.{rows-within, rows-past}
 
-pub turned-edge : (rows : List ℕ) (r s : ℕ) → r < 32 → s < 32 → edge (turnedOf rows) s r ≡ edge rows r s
-unfolding turnedOf
+pub turned-edge : (rows : List ℕ) (r s : ℕ) → r < 32 → s < 32 → edge (turned_of rows) s r ≡ edge rows r s
+unfolding turned_of
 turned-edge rows r s lr ls = rows-within (λ s r. edge rows r s) s r ls lr
 
 -- meeting the set of s alone is naming s
@@ -26,9 +26,9 @@ meet_one m b s l h =
     same_test (some 32 (λ i. has m i && has b i)) (has m s)
     (λ e.
     let w : Found 32 (λ i. has m i && has b i) = some-elim 32 (λ i. has m i && has b i) e in
-    let p = and-true-both (has m w.at) (has b w.at) w.is in
+    let p = and_true_both (has m w.at) (has b w.at) w.is in
     subst (λ (x : ℕ). has m x ≡ true) (eqb-true w.at s (sym (h w.at) ∙ p.1)) p.0)
-    (λ e. some-intro 32 (λ i. has m i && has b i) s l (ap₂ ◌&&◌ e (h s ∙ eq-eqb s s refl)))
+    (λ e. some_intro 32 (λ i. has m i && has b i) s l (ap₂ ◌&&◌ e (h s ∙ eq-eqb s s refl)))
 
 -- ---- what the rows that b names have together is who, turned round, names one of b
 
@@ -39,14 +39,14 @@ met rows back b s h =
     some_same 32 (λ x. has b x && edge back x s) (λ x. edge rows s x && has b x)
     (λ x l. ap (λ (y : Bool). has b x && y) (h x l) ∙ and_comm (has b x) (edge rows s x))
 
-pub mutual-met : {rows : List ℕ} → Mutual rows → (b s : ℕ) → some 32 (λ x. has b x && edge rows x s) ≡ meet (get_or rows s 0) b
-mutual-met {rows} m b s = met rows rows b s (λ x l. m.same x s)
+pub mutual_met : {rows : List ℕ} → Mutual rows → (b s : ℕ) → some 32 (λ x. has b x && edge rows x s) ≡ meet (get_or rows s 0) b
+mutual_met {rows} m b s = met rows rows b s (λ x l. m.same x s)
 
 pub turned-met : (rows : List ℕ) (b g : ℕ) → g < 2 ^ 32 → ((s : ℕ) → has g s ≡ some 32 (λ x. has b x && edge rows x s))
-    → (s : ℕ) → has g s ≡ meet (get_or (turnedOf rows) s 0) b
-unfolding turnedOf
+    → (s : ℕ) → has g s ≡ meet (get_or (turned_of rows) s 0) b
+unfolding turned_of
 turned-met rows b g f h s =
     ⊎_elim
-    (λ l. h s ∙ met (turnedOf rows) rows b s (λ x k. sym (turned-edge rows x s k l)))
+    (λ l. h s ∙ met (turned_of rows) rows b s (λ x k. sym (turned-edge rows x s k l)))
     (λ l. has-high 32 s f l ∙ sym (ap (λ (x : ℕ). meet x b) (rows-past (λ s r. edge rows r s) s l) ∙ meet-zero b))
-    (lt-or-ge s 32)
+    (lt-or_ge s 32)

@@ -3,7 +3,7 @@ use Rattle.std.specs.Prelude.{◌≡◌, Bool, true, false, not, ◌&&◌, ◌||
 use Rattle.std.specs.Int.Bits.{bit_or}
 use Rattle.mask.specs.Mask.{meet, has}
 use Rattle.analysis_pairs.specs.declared.Masks.{Masks}
-use Rattle.analysis_pairs.specs.RuleMasks.{commute, triggers, masksBy}
+use Rattle.analysis_pairs.specs.RuleMasks.{commute, triggers, masks_by}
 use Rattle.mask.specs.Search.{some}
 use Rattle.graph.specs.GraphInner.{Edge}
 use Rattle.analysis_pairs.specs.Rules.{Grown, first, second, Rules, Passes, Culprits}
@@ -34,27 +34,27 @@ pub record Grew (trig before : List ℕ) (i j a b : ℕ) : Type 0 where
   pub first : (s : ℕ) → (has a s ≡ true) ↔ RowsGrown trig before i j true s
   pub second : (s : ℕ) → (has b s ≡ true) ↔ RowsGrown trig before i j false s
 
-abbrev pub masksIn : ℕ → List ℕ → List ℕ → List ℕ → List ℕ → Masks
-masksIn n watch reads writes precedes =
+abbrev pub masks_in : ℕ → List ℕ → List ℕ → List ℕ → List ℕ → Masks
+masks_in n watch reads writes precedes =
     record { n = n; watch = watch; reads = reads; writes = writes; precedes = precedes }
 
 -- rules of which no more is known than what they watch and write, and so who may trigger whom
 abbrev pub triggering : ℕ → List ℕ → List ℕ → Masks
-triggering n watch writes = masksIn n watch [] writes []
+triggering n watch writes = masks_in n watch [] writes []
 
-abbrev pub triggersIn : List ℕ → List ℕ → List ℕ
-triggersIn watch writes = triggers (triggering 0 watch writes)
+abbrev pub triggers_in : List ℕ → List ℕ → List ℕ
+triggers_in watch writes = triggers (triggering 0 watch writes)
 
 -- mask r: the rules that do not commute with r
 unfoldable pub clashes : Masks → List ℕ
-clashes m = masksBy (λ r s. not (commute m r s))
+clashes m = masks_by (λ r s. not (commute m r s))
 
 -- who does not commute with whom: their number and their priorities are not asked
-abbrev pub clashesIn : List ℕ → List ℕ → List ℕ → List ℕ
-clashesIn watch reads writes = clashes (masksIn 0 watch reads writes [])
+abbrev pub clashes_in : List ℕ → List ℕ → List ℕ → List ℕ
+clashes_in watch reads writes = clashes (masks_in 0 watch reads writes [])
 
-abbrev pub rowRules : List ℕ → List ℕ → List ℕ → Rules
-rowRules trig before clash = record { may = edge trig; before = Edge before; commute = λ r s. not (edge clash r s) }
+abbrev pub row_rules : List ℕ → List ℕ → List ℕ → Rules
+row_rules trig before clash = record { may = edge trig; before = Edge before; commute = λ r s. not (edge clash r s) }
 
 -- what is found out about a pair: it passes, and the two numbers are 0; or it fails, and they are the culprits
 pub record Judged (b : Rules) (i j : ℕ) (fails : Bool) (r s : ℕ) : Type 0 where
@@ -67,12 +67,12 @@ pub record Among (n : ℕ) (f : ℕ → ℕ → Bool) : Type 0 where
   pub to : (r s : ℕ) → n ≤ s → f r s ≡ false
 
 -- mask s: the numbers whose mask names s
-unfoldable pub turnedOf : List ℕ → List ℕ
-turnedOf rows = masksBy (λ s r. edge rows r s)
+unfoldable pub turned_of : List ℕ → List ℕ
+turned_of rows = masks_by (λ s r. edge rows r s)
 
 -- the rules in the rows that the code works on; mask s of `ahead`: the rules that go before s
-abbrev pub rulesIn : List ℕ → List ℕ → List ℕ → Rules
-rulesIn trig ahead clash = rowRules trig (turnedOf ahead) clash
+abbrev pub rules_in : List ℕ → List ℕ → List ℕ → Rules
+rules_in trig ahead clash = row_rules trig (turned_of ahead) clash
 
 -- each names the other, or neither does
 pub record Mutual (rows : List ℕ) : Type 0 where

@@ -1,9 +1,9 @@
 // The pair condition on rows of masks: who may trigger whom, who commutes with whom, and whether a pair passes.
 ghost use Rattle.std.specs.Prelude.{◌≡◌, not, [], ℕ, ◌<◌, ◌≤◌, get_or};
 ghost use Rattle.mask.specs.Mask.{has};
-ghost use Rattle.analysis_pairs.specs.RuleMasks.{mayTrigger, commute};
-ghost use Rattle.analysis_pairs.specs.AnalysisPairsInner.{edge, masksIn, triggering, triggersIn, clashesIn, Among};
-ghost use Rattle.analysis_pairs.specs.AnalysisPairsInner.{turnedOf, rulesIn, Mutual, Touches, clashing, grows, Grew, Judged};
+ghost use Rattle.analysis_pairs.specs.RuleMasks.{may_trigger, commute};
+ghost use Rattle.analysis_pairs.specs.AnalysisPairsInner.{edge, masks_in, triggering, triggers_in, clashes_in, Among};
+ghost use Rattle.analysis_pairs.specs.AnalysisPairsInner.{turned_of, rules_in, Mutual, Touches, clashing, grows, Grew, Judged};
 
 // Four masks a rule, of at most 32 rules: the cells that it watches, reads and writes, and the rules that it precedes.
 #[derive(Drop)]
@@ -32,8 +32,8 @@ pub struct Judgement {
 
 // Mask r: the rules that watch a cell that r writes.
 pub fn triggers(watch: &[u32; 32], writes: &[u32; 32], n: usize) -> [u32; 32]
-    requires { (n ≤ 32) × Among n (mayTrigger (triggering 0 watch.now writes.now)) }
-    ensures { result ≡ triggersIn watch.now writes.now }
+    requires { (n ≤ 32) × Among n (may_trigger (triggering 0 watch.now writes.now)) }
+    ensures { result ≡ triggers_in watch.now writes.now }
 {
     let mut t = [0u32; 32];
     for r in 0..n {
@@ -64,8 +64,8 @@ fn clashing(touched: &[u32; 32], writes: &[u32; 32], i: usize) -> u32
 
 // Mask r: the rules that do not commute with r.
 pub fn clashes(watch: &[u32; 32], reads: &[u32; 32], writes: &[u32; 32], n: usize) -> [u32; 32]
-    requires { (n ≤ 32) × Among n (λ r s. not (commute (masksIn 0 watch.now reads.now writes.now []) r s)) }
-    ensures { result ≡ clashesIn watch.now reads.now writes.now }
+    requires { (n ≤ 32) × Among n (λ r s. not (commute (masks_in 0 watch.now reads.now writes.now []) r s)) }
+    ensures { result ≡ clashes_in watch.now reads.now writes.now }
 {
     let all = touched(watch, reads, writes);
     let mut c = [0u32; 32];
@@ -78,7 +78,7 @@ pub fn clashes(watch: &[u32; 32], reads: &[u32; 32], writes: &[u32; 32], n: usiz
 // The row turned round, of numbers below n: mask s names the numbers whose mask names s.
 pub fn turned(rows: &[u32; 32], n: usize) -> [u32; 32]
     requires { (n ≤ 32) × Among n (edge rows.now) }
-    ensures { result ≡ turnedOf rows.now }
+    ensures { result ≡ turned_of rows.now }
 {
     let mut t = [0u32; 32];
     for s in 0..n {
@@ -89,7 +89,7 @@ pub fn turned(rows: &[u32; 32], n: usize) -> [u32; 32]
 
 // One round of growing a beside b. Mask s of `ahead`: the rules that go before s.
 fn grow(trig: &[u32; 32], ahead: &[u32; 32], a: u32, b: u32) -> u32
-    ensures { (s : ℕ) → has result s ≡ grows trig.now (turnedOf ahead.now) a b s }
+    ensures { (s : ℕ) → has result s ≡ grows trig.now (turned_of ahead.now) a b s }
 {
     a | (mask::gather(trig, a) & mask::gather(ahead, b))
 }
@@ -97,7 +97,7 @@ fn grow(trig: &[u32; 32], ahead: &[u32; 32], a: u32, b: u32) -> u32
 // R1 and R2, grown from i and j until nothing changes.
 fn grown(trig: &[u32; 32], ahead: &[u32; 32], i: usize, j: usize) -> Sets
     requires { (i < 32) × (j < 32) }
-    ensures { Grew trig.now (turnedOf ahead.now) i j result.first result.second }
+    ensures { Grew trig.now (turned_of ahead.now) i j result.first result.second }
 {
     let mut a = mask::with(0, i);
     let mut b = mask::with(0, j);
@@ -126,7 +126,7 @@ pub fn judge(
     j: usize,
 ) -> Judgement
     requires { (i < 32) × (j < 32) × Mutual clash.now }
-    ensures { Judged (rulesIn trig.now ahead.now clash.now) i j result.fails result.first result.second }
+    ensures { Judged (rules_in trig.now ahead.now clash.now) i j result.fails result.first result.second }
 {
     let g = grown(trig, ahead, i, j);
     let one = g.first;

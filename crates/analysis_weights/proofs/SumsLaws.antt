@@ -12,7 +12,7 @@ use lib.ListN.{get_or, set, length}
 use lib.Seq.{get_or-set_same, get_or-set_other}
 use Rattle.mask.specs.Mask.{has}
 use Rattle.analysis_weights.specs.Weight.{total}
-use Rattle.analysis_weights.specs.AnalysisWeightsInner.{sumBelow, weightIn}
+use Rattle.analysis_weights.specs.AnalysisWeightsInner.{sum_below, weight_in}
 
 -- ---- over a set
 
@@ -42,40 +42,40 @@ total-at (suc k) m f s l e =
 
 -- ---- over all
 
-if-le : (b : Bool) (v : ℕ) → cond b v 0 ≤ v
-if-le true v = le_refl v
-if-le false v = omega arith
+if_le : (b : Bool) (v : ℕ) → cond b v 0 ≤ v
+if_le true v = le_refl v
+if_le false v = omega arith
 
-pub total-le : (k m : ℕ) (f : ℕ → ℕ) → total k m f ≤ sumBelow k f
-unfolding total sumBelow
+pub total-le : (k m : ℕ) (f : ℕ → ℕ) → total k m f ≤ sum_below k f
+unfolding total sum_below
 total-le zero m f = omega arith
-total-le (suc k) m f = omega (arith, total-le k m f, if-le (has m k) (f k))
+total-le (suc k) m f = omega (arith, total-le k m f, if_le (has m k) (f k))
 
-sumBelow-mono : (f : ℕ → ℕ) (n k : ℕ) → n ≤ k → sumBelow n f ≤ sumBelow k f
-unfolding sumBelow
-sumBelow-mono f n = le_ind (λ k. sumBelow n f ≤ sumBelow k f) (le_refl (sumBelow n f)) (λ m l e. omega arith)
+sum_below_mono : (f : ℕ → ℕ) (n k : ℕ) → n ≤ k → sum_below n f ≤ sum_below k f
+unfolding sum_below
+sum_below_mono f n = le_ind (λ k. sum_below n f ≤ sum_below k f) (le_refl (sum_below n f)) (λ m l e. omega arith)
 
-pub sumBelow-at : (k : ℕ) (f : ℕ → ℕ) (x : ℕ) → x < k → sumBelow x f + f x ≤ sumBelow k f
-unfolding sumBelow
-sumBelow-at k f x h = sumBelow-mono f (suc x) k h
+pub sum_below-at : (k : ℕ) (f : ℕ → ℕ) (x : ℕ) → x < k → sum_below x f + f x ≤ sum_below k f
+unfolding sum_below
+sum_below-at k f x h = sum_below_mono f (suc x) k h
 
 -- ---- after a store
 
-sumBelow-below : (w : List ℕ) (i v k : ℕ) → k ≤ i → sumBelow k (weightIn (set w i v)) ≡ sumBelow k (weightIn w)
-unfolding sumBelow
-sumBelow-below w i v zero l = refl
-sumBelow-below w i v (suc k) l =
-    ap₂ ◌+◌ (sumBelow-below w i v k (le_trans (le-suc k) l))
+sum_below-below : (w : List ℕ) (i v k : ℕ) → k ≤ i → sum_below k (weight_in (set w i v)) ≡ sum_below k (weight_in w)
+unfolding sum_below
+sum_below-below w i v zero l = refl
+sum_below-below w i v (suc k) l =
+    ap₂ ◌+◌ (sum_below-below w i v k (le_trans (le-suc k) l))
     (get_or-set_other w i k v 0 (λ z. lt_irrefl k (subst (λ (x : ℕ). k < x) (sym z) l)))
 
-pub sumBelow-set : (w : List ℕ) (i v k : ℕ) → i < length w → sumBelow k (weightIn (set w i v)) ≤ sumBelow k (weightIn w) + v
-unfolding sumBelow
-sumBelow-set w i v zero h = omega arith
-sumBelow-set w i v (suc k) h =
-    let ih : sumBelow k (weightIn (set w i v)) ≤ sumBelow k (weightIn w) + v = sumBelow-set w i v k h in
+pub sum_below-set : (w : List ℕ) (i v k : ℕ) → i < length w → sum_below k (weight_in (set w i v)) ≤ sum_below k (weight_in w) + v
+unfolding sum_below
+sum_below-set w i v zero h = omega arith
+sum_below-set w i v (suc k) h =
+    let ih : sum_below k (weight_in (set w i v)) ≤ sum_below k (weight_in w) + v = sum_below-set w i v k h in
     elim (ℕ_discrete k i) [
       | yes z ↦
-          let e : sumBelow k (weightIn (set w i v)) ≡ sumBelow k (weightIn w) = sumBelow-below w i v k (le_of_eq z) in
+          let e : sum_below k (weight_in (set w i v)) ≡ sum_below k (weight_in w) = sum_below-below w i v k (le_of_eq z) in
           let f : get_or (set w i v) k 0 ≡ v = ap (λ (x : ℕ). get_or (set w i v) x 0) z ∙ get_or-set_same w i v 0 h in
           omega (arith, e, f)
       | no z ↦

@@ -14,53 +14,53 @@ use lib.Pow.{pow_pos, pow_mono}
 use lib.Seq.{get_or-set_same, get_or-set_other}
 use borrow.Author.Tests.{eq-eqb, ne_eqb}
 use Rattle.mask.specs.Search.{count}
-use Rattle.mask.proofs.SearchLaws.{Found, some-elim, some-false, and-true-both, count-max, count-drop}
+use Rattle.mask.proofs.SearchLaws.{Found, some-elim, some_false, and_true_both, count-max, count-drop}
 use Rattle.mask.specs.Mask.{has, meet}
 use Rattle.mask.proofs.BitsLaws.{has-lt}
 use Rattle.graph.specs.GraphInner.{Halts, halts}
 use Rattle.analysis_weights.specs.Weight.{total}
-use Rattle.analysis_weights.specs.AnalysisWeightsInner.{sumBelow, weightIn, ReadyRule, Headroom, Weighable, Weighed}
-use Rattle.analysis_weights.proofs.SumsLaws.{total-same, sumBelow-set}
+use Rattle.analysis_weights.specs.AnalysisWeightsInner.{sum_below, weight_in, ReadyRule, Headroom, Weighable, Weighed}
+use Rattle.analysis_weights.proofs.SumsLaws.{total-same, sum_below-set}
 
 -- ---- room
 
 pub room-start : (left : ℕ) → Headroom (replicate 32 0) left
-unfolding Headroom sumBelow
+unfolding Headroom sum_below
 room-start left = le_trans (le_of_eq (one-mul (2 ^ count 32 (has left)))) (pow_mono (count-max 32 (has left)))
 
-pub room_fits : (w : List ℕ) (left : ℕ) → Headroom w left → sumBelow 32 (weightIn w) < 2 ^ 32
+pub room_fits : (w : List ℕ) (left : ℕ) → Headroom w left → sum_below 32 (weight_in w) < 2 ^ 32
 unfolding Headroom
 room_fits w left h =
     let k : ℕ = count 32 (has left) in
-    let e : (sumBelow 32 (weightIn w) + 1) * 1 ≤ (sumBelow 32 (weightIn w) + 1) * 2 ^ k =
-    mul-le-mul_left (sumBelow 32 (weightIn w) + 1) (pow_pos k) in
+    let e : (sum_below 32 (weight_in w) + 1) * 1 ≤ (sum_below 32 (weight_in w) + 1) * 2 ^ k =
+    mul-le-mul_left (sum_below 32 (weight_in w) + 1) (pow_pos k) in
     omega (arith, e, h)
 
 twice : (a k : ℕ) → (a * 2) * 2 ^ k ≡ a * 2 ^ suc k
 twice a k = mul_assoc a 2 (2 ^ k) ∙ ap (λ (x : ℕ). a * x) (mul_comm 2 (2 ^ k) ∙ sym (pow-suc 2 k))
 
 -- a rule that is left has room for one more than all the others together
-pub room-one : (w : List ℕ) (left r : ℕ) → r < 32 → has left r ≡ true → Headroom w left → sumBelow 32 (weightIn w) + 1 < 2 ^ 32
+pub room-one : (w : List ℕ) (left r : ℕ) → r < 32 → has left r ≡ true → Headroom w left → sum_below 32 (weight_in w) + 1 < 2 ^ 32
 unfolding Headroom
 room-one w left r l m h =
     let k : ℕ = count 32 (λ x. has left x && not (eqb x r)) in
     let e : count 32 (has left) ≡ suc k = count-drop 32 (has left) (λ x. has left x && not (eqb x r)) r l m (λ x. refl) in
-    let a : (sumBelow 32 (weightIn w) + 1) * 2 * 1 ≤ (sumBelow 32 (weightIn w) + 1) * 2 * 2 ^ k =
-    mul-le-mul_left ((sumBelow 32 (weightIn w) + 1) * 2) (pow_pos k) in
-    let b : (sumBelow 32 (weightIn w) + 1) * 2 * 2 ^ k ≤ 2 ^ 32 =
-    le_trans (le_of_eq (twice (sumBelow 32 (weightIn w) + 1) k ∙ ap (λ (x : ℕ). (sumBelow 32 (weightIn w) + 1) * 2 ^ x) (sym e))) h in
+    let a : (sum_below 32 (weight_in w) + 1) * 2 * 1 ≤ (sum_below 32 (weight_in w) + 1) * 2 * 2 ^ k =
+    mul-le-mul_left ((sum_below 32 (weight_in w) + 1) * 2) (pow_pos k) in
+    let b : (sum_below 32 (weight_in w) + 1) * 2 * 2 ^ k ≤ 2 ^ 32 =
+    le_trans (le_of_eq (twice (sum_below 32 (weight_in w) + 1) k ∙ ap (λ (x : ℕ). (sum_below 32 (weight_in w) + 1) * 2 ^ x) (sym e))) h in
     omega (arith, a, b)
 
-pub room_next : (w : List ℕ) (left left' i v : ℕ) → i < length w → v ≤ sumBelow 32 (weightIn w) + 1
+pub room_next : (w : List ℕ) (left left' i v : ℕ) → i < length w → v ≤ sum_below 32 (weight_in w) + 1
     → count 32 (has left) ≡ suc (count 32 (has left')) → Headroom w left → Headroom (set w i v) left'
 unfolding Headroom
 room_next w left left' i v h l e r =
     let k : ℕ = count 32 (has left') in
-    let s : sumBelow 32 (weightIn (set w i v)) ≤ sumBelow 32 (weightIn w) + v = sumBelow-set w i v 32 h in
-    let a : (sumBelow 32 (weightIn (set w i v)) + 1) * 2 ^ k ≤ ((sumBelow 32 (weightIn w) + 1) * 2) * 2 ^ k =
+    let s : sum_below 32 (weight_in (set w i v)) ≤ sum_below 32 (weight_in w) + v = sum_below-set w i v 32 h in
+    let a : (sum_below 32 (weight_in (set w i v)) + 1) * 2 ^ k ≤ ((sum_below 32 (weight_in w) + 1) * 2) * 2 ^ k =
     mul-le-mul_right (2 ^ k) (omega arith) in
     le_trans a (le_trans
-    (le_of_eq (twice (sumBelow 32 (weightIn w) + 1) k ∙ ap (λ (x : ℕ). (sumBelow 32 (weightIn w) + 1) * 2 ^ x) (sym e))) r)
+    (le_of_eq (twice (sum_below 32 (weight_in w) + 1) k ∙ ap (λ (x : ℕ). (sum_below 32 (weight_in w) + 1) * 2 ^ x) (sym e))) r)
 
 -- ---- a rule that is ready halts; where none is ready, none of `left` halts
 module _ {trig : List ℕ} {left : ℕ} (fl : left < 2 ^ 32) where
@@ -71,7 +71,7 @@ module _ {trig : List ℕ} {left : ℕ} (fl : left < 2 ^ 32) where
       let w : Found 32 (λ s. has (get_or trig r 0) s && has left s) =
       some-elim 32 (λ s. has (get_or trig r 0) s && has left s) (h r (has-lt 32 r fl e) e) in
       let p : (has (get_or trig r 0) w.at ≡ true) × (has left w.at ≡ true) =
-      and-true-both (has (get_or trig r 0) w.at) (has left w.at) w.is in
+      and_true_both (has (get_or trig r 0) w.at) (has left w.at) w.is in
       stuck h (f w.at p.0) p.1
 
 -- what r may trigger is outside `left`
@@ -79,13 +79,13 @@ outside : (trig : List ℕ) (left r : ℕ) → meet (get_or trig r 0) left ≡ f
     → (s : ℕ) → s < 32 → has (get_or trig r 0) s ≡ true → has left s ≡ false
 unfolding meet
 outside trig left r d s l e =
-    sym (ap (λ (b : Bool). b && has left s) e) ∙ some-false 32 (λ i. has (get_or trig r 0) i && has left i) d s l
+    sym (ap (λ (b : Bool). b && has left s) e) ∙ some_false 32 (λ i. has (get_or trig r 0) i && has left i) d s l
 
 -- ---- a call that weighs nothing
 
-pub weighed-none : (trig : List ℕ) (left : ℕ) (w : List ℕ) (r : ℕ) → left < 2 ^ 32 → 32 ≤ r → ReadyRule trig left r
+pub weighed_none : (trig : List ℕ) (left : ℕ) (w : List ℕ) (r : ℕ) → left < 2 ^ 32 → 32 ≤ r → ReadyRule trig left r
     → Weighable trig left w → Weighed trig left w w
-weighed-none trig left w r fl l d a =
+weighed_none trig left w r fl l d a =
     record {
       size = refl;
       weight = λ x e h. absurd (stuck fl (λ y m. d.passed y (le_trans m l)) h e);
@@ -105,9 +105,9 @@ module _ (trig : List ℕ) (left left' : ℕ) (w : List ℕ) (r : ℕ) (lr : r <
   ready-halts =
       halts (λ s e. a.halted r s e (outside trig left r (d.taken lr).1 s (has-lt 32 s (a.rows r) e) e))
 
-  pub weighable-next : (v : ℕ) → v ≤ sumBelow 32 (weightIn w) + 1 → count 32 (has left) ≡ suc (count 32 (has left'))
+  pub weighable_next : (v : ℕ) → v ≤ sum_below 32 (weight_in w) + 1 → count 32 (has left) ≡ suc (count 32 (has left'))
       → Weighable trig left' (set w r v)
-  weighable-next v lv e =
+  weighable_next v lv e =
       record {
         size = length-set w r v ∙ a.size;
         rows = a.rows;
@@ -123,14 +123,14 @@ module _ (trig : List ℕ) (left left' : ℕ) (w : List ℕ) (r : ℕ) (lr : r <
       back true y e q = sym (ap not e) ∙ q
       back false y e q = refl
 
-  pub weighed-more : (v : List ℕ) (t : ℕ) → t ≡ total 32 (get_or trig r 0) (weightIn w)
+  pub weighed_more : (v : List ℕ) (t : ℕ) → t ≡ total 32 (get_or trig r 0) (weight_in w)
       → Weighed trig left' (set w r (t + 1)) v → Weighed trig left w v
-  weighed-more v t q u =
+  weighed_more v t q u =
       record {
         size = u.size ∙ length-set w r (t + 1);
         weight = λ x e h.
             elim (ℕ_discrete x r) [
-              | yes z ↦ subst (λ (y : ℕ). weightIn v y ≡ 1 + total 32 (get_or trig y 0) (weightIn v)) (sym z) here
+              | yes z ↦ subst (λ (y : ℕ). weight_in v y ≡ 1 + total 32 (get_or trig y 0) (weight_in v)) (sym z) here
               | no z ↦ u.weight x (hl x ∙ ap₂ (λ (a b : Bool). a && not b) e (ne_eqb x r z)) h
             ];
         endless =
@@ -142,16 +142,16 @@ module _ (trig : List ℕ) (left left' : ℕ) (w : List ℕ) (r : ℕ) (lr : r <
       ne : (x : ℕ) → has left x ≡ false → x ≢ r
       ne x e z = false≢true (sym e ∙ ap (has left) z ∙ (d.taken lr).0)
 
-      kept : (x : ℕ) → x ≢ r → has left x ≡ false → weightIn v x ≡ weightIn w x
+      kept : (x : ℕ) → x ≢ r → has left x ≡ false → weight_in v x ≡ weight_in w x
       kept x z e = u.same x (hl x ∙ ap (λ (b : Bool). b && not (eqb x r)) e) ∙ get_or-set_other w r x (t + 1) 0 z
 
-      sum : total 32 (get_or trig r 0) (weightIn w) ≡ total 32 (get_or trig r 0) (weightIn v)
+      sum : total 32 (get_or trig r 0) (weight_in w) ≡ total 32 (get_or trig r 0) (weight_in v)
       sum =
-          total-same 32 (get_or trig r 0) (weightIn w) (weightIn v) (λ s m e.
+          total-same 32 (get_or trig r 0) (weight_in w) (weight_in v) (λ s m e.
           let o : has left s ≡ false = outside trig left r (d.taken lr).1 s m e in sym (kept s (ne s o) o))
 
-      here : weightIn v r ≡ 1 + total 32 (get_or trig r 0) (weightIn v)
+      here : weight_in v r ≡ 1 + total 32 (get_or trig r 0) (weight_in v)
       here =
           u.same r (hl r ∙ ap (λ (b : Bool). has left r && not b) (eq-eqb r r refl) ∙ and-false (has left r))
           ∙ get_or-set_same w r (t + 1) 0 lw
-          ∙ (let e : t ≡ total 32 (get_or trig r 0) (weightIn v) = q ∙ sum in omega (arith, e))
+          ∙ (let e : t ≡ total 32 (get_or trig r 0) (weight_in v) = q ∙ sum in omega (arith, e))

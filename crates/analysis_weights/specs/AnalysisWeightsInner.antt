@@ -12,17 +12,17 @@ pub record ReadyRule (trig : List ℕ) (left r : ℕ) : Type 0 where
   pub bound : r ≤ 32
 
 -- the sum of f over all the numbers below k
-unfoldable pub sumBelow : ℕ → (ℕ → ℕ) → ℕ
-sumBelow zero f = 0
-sumBelow (suc k) f = sumBelow k f + f k
+unfoldable pub sum_below : ℕ → (ℕ → ℕ) → ℕ
+sum_below zero f = 0
+sum_below (suc k) f = sum_below k f + f k
 
 -- the entries of a list, as a function
-abbrev pub weightIn : List ℕ → ℕ → ℕ
-weightIn w r = get_or w r 0
+abbrev pub weight_in : List ℕ → ℕ → ℕ
+weight_in w r = get_or w r 0
 
 -- with T the sum so far and c rules left, T + 1 is at most 2 ^ (32 - c)
 unfoldable pub Headroom : List ℕ → ℕ → Type 0
-Headroom w left = (sumBelow 32 (weightIn w) + 1) * 2 ^ count 32 (has left) ≤ 2 ^ 32
+Headroom w left = (sum_below 32 (weight_in w) + 1) * 2 ^ count 32 (has left) ≤ 2 ^ 32
 
 -- the rules outside `left` are weighed, those of `left` are not
 pub record Weighable (trig : List ℕ) (left : ℕ) (w : List ℕ) : Type 0 where
@@ -34,16 +34,16 @@ pub record Weighable (trig : List ℕ) (left : ℕ) (w : List ℕ) : Type 0 wher
 -- v has the weights of the rules of `left` that halt, and is w elsewhere
 pub record Weighed (trig : List ℕ) (left : ℕ) (w v : List ℕ) : Type 0 where
   pub size : length v ≡ length w
-  pub weight : (r : ℕ) → has left r ≡ true → Halts trig r → weightIn v r ≡ 1 + total 32 (get_or trig r 0) (weightIn v)
-  pub endless : (r : ℕ) → (Halts trig r → ⊥) → weightIn v r ≡ weightIn w r
-  pub same : (r : ℕ) → has left r ≡ false → weightIn v r ≡ weightIn w r
-  pub fits : sumBelow 32 (weightIn v) < 2 ^ 32
+  pub weight : (r : ℕ) → has left r ≡ true → Halts trig r → weight_in v r ≡ 1 + total 32 (get_or trig r 0) (weight_in v)
+  pub endless : (r : ℕ) → (Halts trig r → ⊥) → weight_in v r ≡ weight_in w r
+  pub same : (r : ℕ) → has left r ≡ false → weight_in v r ≡ weight_in w r
+  pub fits : sum_below 32 (weight_in v) < 2 ^ 32
 
 -- "a rule weighs one more than all the rules it may trigger together". A rule from which some way goes on for ever has
 -- no weight, and neither has a rule from n up: they have 0 here. All weights together are at most 4,294,967,295.
 pub record Weights (trig : List ℕ) (n : ℕ) (v : List ℕ) : Type 0 where
   pub size : length v ≡ 32
-  pub weight : (r : ℕ) → r < n → Halts trig r → weightIn v r ≡ 1 + total 32 (get_or trig r 0) (weightIn v)
-  pub endless : (r : ℕ) → (Halts trig r → ⊥) → weightIn v r ≡ 0
-  pub absent : (r : ℕ) → n ≤ r → weightIn v r ≡ 0
-  pub fits : sumBelow 32 (weightIn v) < 2 ^ 32
+  pub weight : (r : ℕ) → r < n → Halts trig r → weight_in v r ≡ 1 + total 32 (get_or trig r 0) (weight_in v)
+  pub endless : (r : ℕ) → (Halts trig r → ⊥) → weight_in v r ≡ 0
+  pub absent : (r : ℕ) → n ≤ r → weight_in v r ≡ 0
+  pub fits : sum_below 32 (weight_in v) < 2 ^ 32

@@ -9,8 +9,8 @@ total zero m f = 0
 total (suc k) m f = total k m f + cond (has m k) (f k) 0
 
 -- the weight of r, computed along ways of fewer than k rules; 0 where a way is longer
-unfoldable pub weightOf : List ℕ → ℕ → ℕ → ℕ
-weightOf trig zero r = 0
-weightOf trig (suc k) r =
-    cond (some 32 (λ s. has (get_or trig r 0) s && eqb (weightOf trig k s) 0)) 0
-    (1 + total 32 (get_or trig r 0) (weightOf trig k))
+unfoldable pub weight_of : List ℕ → ℕ → ℕ → ℕ
+weight_of trig zero r = 0
+weight_of trig (suc k) r =
+    cond (some 32 (λ s. has (get_or trig r 0) s && eqb (weight_of trig k s) 0)) 0
+    (1 + total 32 (get_or trig r 0) (weight_of trig k))

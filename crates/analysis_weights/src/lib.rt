@@ -2,12 +2,12 @@
 ghost use Rattle.std.specs.Prelude.{◌≡◌, ◌^◌, ◌<◌, ◌≤◌};
 ghost use Rattle.graph.specs.GraphInner.{Rows};
 ghost use Rattle.analysis_weights.specs.Weight.{total};
-ghost use Rattle.analysis_weights.specs.AnalysisWeightsInner.{sumBelow, weightIn, Weights, ReadyRule, Weighable, Weighed};
+ghost use Rattle.analysis_weights.specs.AnalysisWeightsInner.{sum_below, weight_in, Weights, ReadyRule, Weighable, Weighed};
 
 // The sum of w over the members of m: the step bound of the set, where w are the weights.
 pub fn total(w: &[u32; 32], m: u32) -> u32
-    requires { sumBelow 32 (weightIn w.now) < 2 ^ 32 }
-    ensures { result ≡ total 32 m (weightIn w.now) }
+    requires { sum_below 32 (weight_in w.now) < 2 ^ 32 }
+    ensures { result ≡ total 32 m (weight_in w.now) }
 {
     let mut t = 0;
     for x in 0..32 {

@@ -1,9 +1,9 @@
 // Judges a book where it lies: its number and its place.
 ghost use Rattle.std.specs.Prelude.{◌≡◌, ◌+◌, ◌*◌, ◌≤◌, ◌<◌, length};
-ghost use Rattle.rule_check.specs.RuleCheckInner.{numberWith};
+ghost use Rattle.rule_check.specs.RuleCheckInner.{number_with};
 ghost use Rattle.table.specs.Check.{answer};
-ghost use Rattle.book_judge.specs.Read.{start_of, length_of, contentsBad, ruleIn, read_of, told};
-ghost use Rattle.book_judge.specs.BookJudgeInner.{n_of, k_of, Inside, bodyBad, Stretch, bodiesOf};
+ghost use Rattle.book_judge.specs.Read.{start_of, length_of, contents_bad, rule_in, read_of, told};
+ghost use Rattle.book_judge.specs.BookJudgeInner.{n_of, k_of, Inside, body_bad, Stretch, bodies_of};
 
 use table::Answer;
 
@@ -32,7 +32,7 @@ fn size(s: &[u8], i: usize) -> usize
 // 4: whether the contents do not fit the book.
 fn contents_bad(s: &[u8], n: usize) -> bool
     requires { n ≤ 32 }
-    ensures { result ≡ contentsBad s.now n }
+    ensures { result ≡ contents_bad s.now n }
 {
     if s.len() < 4 + 4 * n {
         return true;
@@ -49,7 +49,7 @@ fn contents_bad(s: &[u8], n: usize) -> bool
 // 5 of body i: its counts, or its length.
 fn body_bad(s: &[u8], i: usize) -> bool
     requires { (i < 32) × (8 + 4 * i ≤ length s.now) × (start_of s.now i + length_of s.now i ≤ length s.now) }
-    ensures { result ≡ bodyBad s.now i }
+    ensures { result ≡ body_bad s.now i }
 {
     let at = start(s, i);
     let len = size(s, i);
@@ -72,7 +72,7 @@ fn refused(number: u8, place: u8) -> Answer
 // The name of the body at `at`.
 fn name_of(s: &[u8], at: usize) -> [u8; 16]
     requires { Stretch s.now at }
-    ensures { result ≡ (ruleIn s.now at).name }
+    ensures { result ≡ (rule_in s.now at).name }
 {
     let c = rule_read::counts_at(s, at);
     rule_read::read_name(s, at + 12 + 12 * c.tests + 20 * c.assigns, c.letters)
@@ -81,7 +81,7 @@ fn name_of(s: &[u8], at: usize) -> [u8; 16]
 // Its number, where it is known whether an earlier rule has its name.
 fn number_of(s: &[u8], at: usize, n: u8, k: u8, taken: bool) -> u8
     requires { Stretch s.now at × (n ≤ 32) × (k ≤ 32) }
-    ensures { result ≡ numberWith n k taken (ruleIn s.now at) }
+    ensures { result ≡ number_with n k taken (rule_in s.now at) }
 {
     let c = rule_read::counts_at(s, at);
     rule_check::number_in(s, at, c.tests, c.assigns, c.letters, n, k, taken)
@@ -90,7 +90,7 @@ fn number_of(s: &[u8], at: usize, n: u8, k: u8, taken: bool) -> u8
 // The bodies one after another, each with its numbers, then 10.
 fn judge_bodies(s: &[u8], n: u8, k: u8) -> Answer
     requires { (n ≡ n_of s.now) × (k ≡ k_of s.now) × (k ≤ 32) × Inside s.now n }
-    ensures { result ≡ told (bodiesOf s.now) }
+    ensures { result ≡ told (bodies_of s.now) }
 {
     let mut names = [0u64; 64];
     let mut row = [0u32; 32];

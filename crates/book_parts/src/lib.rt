@@ -1,18 +1,18 @@
 // The contents and the bodies of a table, written into a lent buffer.
 ghost use Rattle.std.specs.Prelude.{◌≡◌, ◌++◌, ◌+◌, ◌*◌, ◌≤◌, ◌<◌, length};
 ghost use Rattle.bytes.specs.Put.{put};
-ghost use Rattle.bytes.specs.Bytes.{u16Bytes};
-ghost use Rattle.rule_write.specs.Pieces.{bodyBytes};
+ghost use Rattle.bytes.specs.Bytes.{u16_bytes};
+ghost use Rattle.rule_write.specs.Pieces.{body_bytes};
 ghost use Rattle.rule.specs.RuleInner.{Counted};
-ghost use Rattle.table.specs.Memory.{tableFrom};
-ghost use Rattle.table.specs.TableInner.{ruleFrom};
-ghost use Rattle.table.specs.BodyStarts.{bodySize, start_at};
-ghost use Rattle.book_parts.specs.BookPartsInner.{Ready, sizesOf, contentsBytes, bodiesBytes};
+ghost use Rattle.table.specs.Memory.{table_from};
+ghost use Rattle.table.specs.TableInner.{rule_from};
+ghost use Rattle.table.specs.BodyStarts.{body_size, start_at};
+ghost use Rattle.book_parts.specs.BookPartsInner.{Ready, sizes_of, contents_bytes, bodies_bytes};
 
 // How long the body of rule i is.
 fn body_size(s: &[u8], i: usize) -> usize
     requires { (i < 32) × (length s.now ≡ 9092) }
-    ensures { (result ≡ bodySize (ruleFrom s.now i)) × (result ≤ 8427) }
+    ensures { (result ≡ body_size (rule_from s.now i)) × (result ≤ 8427) }
 {
     let c = rule_read::counts_at(s, 4 + 284 * i);
     12 + 12 * c.tests + 20 * c.assigns + c.letters
@@ -21,7 +21,7 @@ fn body_size(s: &[u8], i: usize) -> usize
 // Where the last of n bodies ends.
 pub fn end_of(s: &[u8], n: usize) -> usize
     requires { (n ≤ 32) × (length s.now ≡ 9092) }
-    ensures { result ≡ start_at n (sizesOf (tableFrom s.now).rules) n }
+    ensures { result ≡ start_at n (sizes_of (table_from s.now).rules) n }
 {
     let mut end: usize = 4 + 4 * n;
     for i in 0..n {
@@ -32,15 +32,15 @@ pub fn end_of(s: &[u8], n: usize) -> usize
 
 fn write_entry(out: &mut [u8], at: usize, start: usize, size: usize)
     requires { (start < 65536) × (size < 65536) × (at + 4 ≤ length out.old) }
-    ensures { out.new ≡ put out.old at (u16Bytes start ++ u16Bytes size) }
+    ensures { out.new ≡ put out.old at (u16_bytes start ++ u16_bytes size) }
 {
     bytes::put_u16(out, at, start as u16);
     bytes::put_u16(out, at + 2, size as u16);
 }
 
 pub fn write_contents(out: &mut [u8], s: &[u8], n: usize)
-    requires { Ready n (tableFrom s.now).rules × (length s.now ≡ 9092) × (4 + 4 * n ≤ length out.old) }
-    ensures { out.new ≡ put out.old 4 (contentsBytes n (tableFrom s.now).rules n) }
+    requires { Ready n (table_from s.now).rules × (length s.now ≡ 9092) × (4 + 4 * n ≤ length out.old) }
+    ensures { out.new ≡ put out.old 4 (contents_bytes n (table_from s.now).rules n) }
 {
     let mut start: usize = 4 + 4 * n;
     for i in 0..n {
@@ -52,8 +52,8 @@ pub fn write_contents(out: &mut [u8], s: &[u8], n: usize)
 
 // The body of rule i: the beginnings of its slot's three parts, one after another.
 fn write_body(out: &mut [u8], at: usize, s: &[u8], i: usize)
-    requires { Counted (ruleFrom s.now i) × (i < 32) × (length s.now ≡ 9092) × (at + bodySize (ruleFrom s.now i) ≤ length out.old) }
-    ensures { out.new ≡ put out.old at (bodyBytes (ruleFrom s.now i)) }
+    requires { Counted (rule_from s.now i) × (i < 32) × (length s.now ≡ 9092) × (at + body_size (rule_from s.now i) ≤ length out.old) }
+    ensures { out.new ≡ put out.old at (body_bytes (rule_from s.now i)) }
 {
     let from = 4 + 284 * i;
     let c = rule_read::counts_at(s, from);
@@ -66,8 +66,8 @@ fn write_body(out: &mut [u8], at: usize, s: &[u8], i: usize)
 }
 
 pub fn write_bodies(out: &mut [u8], s: &[u8], n: usize)
-    requires { Ready n (tableFrom s.now).rules × (length s.now ≡ 9092) × (start_at n (sizesOf (tableFrom s.now).rules) n ≤ length out.old) }
-    ensures { out.new ≡ put out.old (4 + 4 * n) (bodiesBytes (tableFrom s.now).rules n) }
+    requires { Ready n (table_from s.now).rules × (length s.now ≡ 9092) × (start_at n (sizes_of (table_from s.now).rules) n ≤ length out.old) }
+    ensures { out.new ≡ put out.old (4 + 4 * n) (bodies_bytes (table_from s.now).rules n) }
 {
     let mut at: usize = 4 + 4 * n;
     for i in 0..n {

@@ -1,9 +1,9 @@
 // Reads a book: judges it, and spreads its bytes into a lent table of 9,092 bytes.
 ghost use Rattle.std.specs.Prelude.{◌≡◌, ◌++◌, ◌+◌, ◌-◌, ◌*◌, ◌≤◌, length, take, drop, replicate};
 ghost use Rattle.bytes.specs.Put.{put};
-ghost use Rattle.rule_write.specs.RuleWriteInner.{slotBytes};
-ghost use Rattle.table.specs.Memory.{tableBytes};
-ghost use Rattle.book_judge.specs.Read.{ruleIn, tableIn, read_of};
+ghost use Rattle.rule_write.specs.RuleWriteInner.{slot_bytes};
+ghost use Rattle.table.specs.Memory.{table_bytes};
+ghost use Rattle.book_judge.specs.Read.{rule_in, table_in, read_of};
 ghost use Rattle.book_read.specs.Spread.{Spread};
 ghost use Rattle.book_judge.specs.BookJudgeInner.{Stretch, GoodBodies};
 
@@ -21,7 +21,7 @@ fn put_padded(out: &mut [u8], to: usize, s: &[u8], from: usize, n: usize, room: 
 // The slot of the body whose head is at `from`.
 fn put_body(out: &mut [u8], to: usize, s: &[u8], from: usize)
     requires { Stretch s.now from × (to + 284 ≤ length out.old) }
-    ensures { out.new ≡ put out.old to (slotBytes (ruleIn s.now from)) }
+    ensures { out.new ≡ put out.old to (slot_bytes (rule_in s.now from)) }
 {
     let c = rule_read::counts_at(s, from);
     let t = c.tests;
@@ -35,7 +35,7 @@ fn put_body(out: &mut [u8], to: usize, s: &[u8], from: usize)
 // The table of a book that was read.
 fn spread(s: &[u8], out: &mut [u8; 9092])
     requires { GoodBodies s.now }
-    ensures { out.new ≡ tableBytes (tableIn s.now) }
+    ensures { out.new ≡ table_bytes (table_in s.now) }
 {
     let n = rule::count(s[1]);
     bytes::put_4(out, 0, 0, s[1], s[2], 0);

@@ -10,13 +10,13 @@ use Rattle.table.proofs.SoundLaws.{sound-by}
 use Rattle.table.specs.Table.{Table}
 use Rattle.table.specs.Memory.{HeldTable}
 use Rattle.table.specs.declared.Answer.{Answer}
-use Rattle.table.specs.Check.{checkOf, Sound}
-use Rattle.book_judge.specs.Read.{Reading, tableIn, read_of}
+use Rattle.table.specs.Check.{check_of, Sound}
+use Rattle.book_judge.specs.Read.{Reading, table_in, read_of}
 use Rattle.book_judge.specs.BookJudgeInner.{taken}
 use Rattle.book_judge.proofs.ReadLaws.{read_done}
 use Rattle.book_write.specs.declared.Written.{Written}
-use Rattle.book_write.specs.Book.{bookOf}
-use Rattle.book_write.specs.Write.{written, writeOf}
+use Rattle.book_write.specs.Book.{book_of}
+use Rattle.book_write.specs.Write.{written, write_of}
 use Rattle.book_write.proofs.WriteLaws.{write_done, wrote}
 use Rattle.book_trips.proofs.ReadWriteLaws.{same_bytes}
 use Rattle.book_trips.proofs.WriteReadLaws.{same-table}
@@ -30,19 +30,19 @@ module _ (s : List ℕ) (b : Bytes s) (t : Table) (e : read_of s ≡ taken t) wh
   is-done : (read_of s).number ≡ 0
   is-done = ap (λ (r : Reading). r.number) e
 
-  table-in : tableIn s ≡ t
-  table-in = ap table_of (sym (read_done s is-done).reading ∙ e)
+  table_in_lem : table_in s ≡ t
+  table_in_lem = ap table_of (sym (read_done s is-done).reading ∙ e)
 
-  read-sound : (checkOf t).number ≡ 0
+  read-sound : (check_of t).number ≡ 0
   read-sound =
-      ap (λ (u : Table). (checkOf u).number) (sym table-in)
+      ap (λ (u : Table). (check_of u).number) (sym table_in_lem)
       ∙ ap (λ (a : Answer). a.number) (read_done s is-done).sound.checked
 
-  read-book : bookOf t ≡ s
-  read-book = ap bookOf (sym table-in) ∙ same_bytes s b is-done
+  read-book : book_of t ≡ s
+  read-book = ap book_of (sym table_in_lem) ∙ same_bytes s b is-done
 
   -- a book that is read done with table t is what a write of t gives, byte for byte
-  pub read-write : (d : List ℕ) → length s ≤ length d → writeOf t d ≡ (written 0 255 (length s), put d 0 s)
+  pub read-write : (d : List ℕ) → length s ≤ length d → write_of t d ≡ (written 0 255 (length s), put d 0 s)
   read-write d l =
       write_done t d read-sound (rw read-book l)
       ∙ ap (λ (bs : List ℕ). (written 0 255 (length bs), put d 0 bs)) read-book
@@ -50,25 +50,25 @@ module _ (s : List ℕ) (b : Bytes s) (t : Table) (e : read_of s ≡ taken t) wh
 -- ---- a table that is written: its bytes are read, and give the table
 
 -- a write of t that is done with the bytes s gives a book that is read done with exactly t
-pub write_read : (t : Table) → HeldTable t → (d s : List ℕ) → writeOf t d ≡ (written 0 255 (length s), put d 0 s)
+pub write_read : (t : Table) → HeldTable t → (d s : List ℕ) → write_of t d ≡ (written 0 255 (length s), put d 0 s)
     → read_of s ≡ taken t
 write_read t held d s e =
     let w = wrote t d (ap (λ (x : Written × List ℕ). x.0.number) e) in
     let f = sym w.is ∙ e in
-    let same : bookOf t ≡ s =
-    sym (put_front d (bookOf t)) ∙ ((λ k. take (f k).0.length (f k).1) ∙ put_front d s) in
+    let same : book_of t ≡ s =
+    sym (put_front d (book_of t)) ∙ ((λ k. take (f k).0.length (f k).1) ∙ put_front d s) in
     ap read_of (sym same) ∙ same-table t (sound-by t w.checked) held
 
 -- ---- what follows
 
 -- two different sound tables never have the same bytes
-pub tables-differ : (t u : Table) → HeldTable t → HeldTable u → Sound t → Sound u → bookOf t ≡ bookOf u → t ≡ u
-tables-differ t u ht hu st su e = ap table_of (sym (same-table t st ht) ∙ (ap read_of e ∙ same-table u su hu))
+pub tables_differ : (t u : Table) → HeldTable t → HeldTable u → Sound t → Sound u → book_of t ≡ book_of u → t ≡ u
+tables_differ t u ht hu st su e = ap table_of (sym (same-table t st ht) ∙ (ap read_of e ∙ same-table u su hu))
 
 -- two different books that are both read never give the same table
-pub books-differ : (s r : List ℕ) → Bytes s → Bytes r → (read_of s).number ≡ 0 → (read_of r).number ≡ 0
+pub books_differ : (s r : List ℕ) → Bytes s → Bytes r → (read_of s).number ≡ 0 → (read_of r).number ≡ 0
     → (read_of s).table ≡ (read_of r).table → s ≡ r
-books-differ s r bs br ds dr e =
-    let of : (x : List ℕ) → Bytes x → (read_of x).number ≡ 0 → bookOf (read_of x).table ≡ x =
-    λ x b d. ap (λ (y : Reading). bookOf y.table) (read_done x d).reading ∙ same_bytes x b d in
-    sym (of s bs ds) ∙ (ap bookOf e ∙ of r br dr)
+books_differ s r bs br ds dr e =
+    let of : (x : List ℕ) → Bytes x → (read_of x).number ≡ 0 → book_of (read_of x).table ≡ x =
+    λ x b d. ap (λ (y : Reading). book_of y.table) (read_done x d).reading ∙ same_bytes x b d in
+    sym (of s bs ds) ∙ (ap book_of e ∙ of r br dr)

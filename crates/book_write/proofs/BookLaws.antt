@@ -7,17 +7,17 @@ use lib.ListN.{length, length-append}
 use Rattle.table.specs.Table.{Table}
 use Rattle.table.specs.Check.{Sound}
 use Rattle.table.specs.BodyStarts.{start_at}
-use Rattle.book_write.specs.Book.{bookOf}
-use Rattle.book_parts.specs.BookPartsInner.{sizesOf, contentsBytes, bodiesBytes}
+use Rattle.book_write.specs.Book.{book_of}
+use Rattle.book_parts.specs.BookPartsInner.{sizes_of, contents_bytes, bodies_bytes}
 use Rattle.book_parts.proofs.PartsLaws.{length-bodies, length-contents, ready, start-most}
 
 -- the book's length is where its last body ends
-pub length-book : (t : Table) → length (bookOf t) ≡ start_at t.n (sizesOf t.rules) t.n
-unfolding bookOf
+pub length-book : (t : Table) → length (book_of t) ≡ start_at t.n (sizes_of t.rules) t.n
+unfolding book_of
 length-book t =
     let head : List ℕ = 1 ∷ t.n ∷ t.k ∷ 0 ∷ [] in
-    let c = contentsBytes t.n t.rules t.n in
-    let b = bodiesBytes t.rules t.n in
+    let c = contents_bytes t.n t.rules t.n in
+    let b = bodies_bytes t.rules t.n in
     omega (
       arith,
       length-append (head ++ c) b,
@@ -26,7 +26,7 @@ length-book t =
       length-bodies t.n t.rules t.n,
     )
 
-pub largest : (t : Table) → Sound t → length (bookOf t) ≤ 9220
+pub largest : (t : Table) → Sound t → length (book_of t) ≤ 9220
 largest t s =
     let r = ready t s in
     omega (arith, length-book t, start-most t.n t.rules r t.n (omega arith), r.few)

@@ -2,20 +2,20 @@
 use Rattle.std.specs.Prelude.{cond, List, ℕ, ltb, length}
 use Rattle.bytes.specs.Put.{put}
 use Rattle.table.specs.Table.{Table}
-use Rattle.table.specs.Check.{checkOf, checked}
+use Rattle.table.specs.Check.{check_of, checked}
 use Rattle.book_write.specs.declared.Written.{Written}
-use Rattle.book_write.specs.Book.{bookOf}
+use Rattle.book_write.specs.Book.{book_of}
 
 abbrev pub written : ℕ → ℕ → ℕ → Written
 written number place size = record { number = number; place = place; length = size }
 
 -- after the writer's checks 18, "output buffer shorter than the book". "A refused write leaves the buffer untouched; a done
 -- write leaves the bytes after the book untouched."
-unfoldable pub writeOf : Table → List ℕ → Written × List ℕ
-writeOf t d =
-    checked (checkOf t) (λ number place. (written number place 0, d))
-    (cond (ltb (length d) (length (bookOf t))) (written 18 255 0, d) (written 0 255 (length (bookOf t)), put d 0 (bookOf t)))
+unfoldable pub write_of : Table → List ℕ → Written × List ℕ
+write_of t d =
+    checked (check_of t) (λ number place. (written number place 0, d))
+    (cond (ltb (length d) (length (book_of t))) (written 18 255 0, d) (written 0 255 (length (book_of t)), put d 0 (book_of t)))
 
 -- after the writer's checks the book's length; 0 where refused
 unfoldable pub size_of : Table → Written
-size_of t = checked (checkOf t) (λ number place. written number place 0) (written 0 255 (length (bookOf t)))
+size_of t = checked (check_of t) (λ number place. written number place 0) (written 0 255 (length (book_of t)))

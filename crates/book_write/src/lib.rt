@@ -1,7 +1,7 @@
 // Writes a table, where its bytes lie, as a book into a lent buffer.
 ghost use Rattle.std.specs.Prelude.{◌≡◌};
-ghost use Rattle.table.specs.Memory.{tableFrom};
-ghost use Rattle.book_write.specs.Write.{writeOf, size_of};
+ghost use Rattle.table.specs.Memory.{table_from};
+ghost use Rattle.book_write.specs.Write.{write_of, size_of};
 
 #[derive(Drop)]
 pub struct Written {
@@ -12,7 +12,7 @@ pub struct Written {
 
 // How long a buffer must be: the book's length, or 0 where the table is refused.
 pub fn size(table: &[u8; 9092]) -> Written
-    ensures { result ≡ size_of (tableFrom table.now) }
+    ensures { result ≡ size_of (table_from table.now) }
 {
     let c = table::check(table);
     if c.number != 0 {
@@ -30,7 +30,7 @@ pub fn size(table: &[u8; 9092]) -> Written
 }
 
 pub fn write(table: &[u8; 9092], out: &mut [u8]) -> Written
-    ensures { (result, out.new) ≡ writeOf (tableFrom table.now) out.old }
+    ensures { (result, out.new) ≡ write_of (table_from table.now) out.old }
 {
     let a = table::check(table);
     if a.number != 0 {

@@ -13,10 +13,10 @@ use lib.ListN.{length, get_or}
 use mir.Syntax.{w64}
 use mir.Val.{SFits}
 use borrow.Author.Tests.{lt-ltb, le-ltb}
-use Rattle.bytes.specs.Little.{byte_at, u16At, u32_at, u64At, i64At, signed}
-use Rattle.bytes.specs.Bytes.{u16Bytes, u32Bytes, u64Bytes, i64Bytes, unsigned}
-use Rattle.bytes.proofs.BytesLaws.{length-u16, length-u32}
-use Rattle.bytes.proofs.StandsLaws.{Stands, stands-nil, stands-cons, stands-left, stands_after, stands-then}
+use Rattle.bytes.specs.Little.{byte_at, u16_at, u32_at, u64_at, i64_at, signed}
+use Rattle.bytes.specs.Bytes.{u16_bytes, u32_bytes, u64_bytes, i64_bytes, unsigned}
+use Rattle.bytes.proofs.BytesLaws.{length_u16, length_u32}
+use Rattle.bytes.proofs.StandsLaws.{Stands, stands-nil, stands-cons, stands-left, stands_after, stands_then}
 use Rattle.bytes.specs.EachByte.{Bytes}
 
 -- ---- a number as a low and a high part
@@ -49,13 +49,13 @@ unsigned_signed x h = pick (ltb x (2 ^ 63))
 
 -- ---- 16 bits
 module _ (s : List ℕ) (i : ℕ) where
-  pub byte-read : (b : ℕ) (bs : List ℕ) → Stands s i (b ∷ bs) → byte_at s i ≡ b
-  byte-read b bs h = ap (λ (k : ℕ). get_or s k 0) (sym (add-zero i)) ∙ h.same 0 (omega arith)
+  pub byte_read : (b : ℕ) (bs : List ℕ) → Stands s i (b ∷ bs) → byte_at s i ≡ b
+  byte_read b bs h = ap (λ (k : ℕ). get_or s k 0) (sym (add-zero i)) ∙ h.same 0 (omega arith)
 
-  pub u16-read : (x : ℕ) → x < 65536 → Stands s i (u16Bytes x) → u16At s i ≡ x
-  unfolding u16Bytes
-  u16-read x l h =
-      let a : byte_at s i ≡ x % 256 = byte-read (x % 256) (x / 256 % 256 ∷ []) h in
+  pub u16_read : (x : ℕ) → x < 65536 → Stands s i (u16_bytes x) → u16_at s i ≡ x
+  unfolding u16_bytes
+  u16_read x l h =
+      let a : byte_at s i ≡ x % 256 = byte_read (x % 256) (x / 256 % 256 ∷ []) h in
       let b : byte_at s (i + 1) ≡ x / 256 % 256 = h.same 1 (omega arith) in
       omega arith
 
@@ -64,70 +64,70 @@ pub record Read (s : List ℕ) (i : ℕ) (m x : ℕ) (bs : List ℕ) : Type 0 wh
   pub small : x < m
   pub stands : Stands s i bs
 
-pub u16-stands : (s : List ℕ) → Bytes s → (i : ℕ) → i + 2 ≤ length s → Read s i 65536 (u16At s i) (u16Bytes (u16At s i))
-unfolding u16Bytes
-u16-stands s b i h =
+pub u16_stands : (s : List ℕ) → Bytes s → (i : ℕ) → i + 2 ≤ length s → Read s i 65536 (u16_at s i) (u16_bytes (u16_at s i))
+unfolding u16_bytes
+u16_stands s b i h =
     let p = b.small i in
     let q = b.small (i + 1) in
     record {
       small = omega arith;
-      stands = stands-cons s i (u16At s i % 256) (u16At s i / 256 % 256 ∷ []) (omega arith) (omega arith)
-          (stands-cons s (i + 1) (u16At s i / 256 % 256) [] (omega arith) (omega arith)
+      stands = stands-cons s i (u16_at s i % 256) (u16_at s i / 256 % 256 ∷ []) (omega arith) (omega arith)
+          (stands-cons s (i + 1) (u16_at s i / 256 % 256) [] (omega arith) (omega arith)
           (stands-nil s (i + 1 + 1) (omega arith)));
     }
 
 -- ---- twice as many: a low part below m and a high part, each of w bytes
 module _ (s : List ℕ) (R : ℕ → ℕ) (B : ℕ → List ℕ) (w m : ℕ) (some-m : 0 < m) (wide : (x : ℕ) → length (B x) ≡ w) where
-  double-read : ((i x : ℕ) → x < m → Stands s i (B x) → R i ≡ x) → (i x : ℕ) → x < m * m
+  double_read : ((i x : ℕ) → x < m → Stands s i (B x) → R i ≡ x) → (i x : ℕ) → x < m * m
       → Stands s i (B (x % m) ++ B (x / m)) → R i + m * R (i + w) ≡ x
-  double-read reads i x l h =
+  double_read reads i x l h =
       let a = reads i (x % m) (mod-lt x some-m) (stands-left s i (B (x % m)) (B (x / m)) h) in
       let g = stands_after s i (B (x % m)) (B (x / m)) w (wide (x % m)) h in
       let b = reads (i + w) (x / m) ((div-lt_iff_lt-mul some-m).1 l) g in
       rw (a, b) (mod-add-div x m)
 
-  double-stands : ((i : ℕ) → i + w ≤ length s → Read s i m (R i) (B (R i))) → (i : ℕ) → i + (w + w) ≤ length s
+  double_stands : ((i : ℕ) → i + w ≤ length s → Read s i m (R i) (B (R i))) → (i : ℕ) → i + (w + w) ≤ length s
       → let x = R i + m * R (i + w) in Read s i (m * m) x (B (x % m) ++ B (x / m))
-  double-stands reads i h =
+  double_stands reads i h =
       let p = reads i (omega arith) in
       let q = reads (i + w) (omega arith) in
       let x = R i + m * R (i + w) in
       record {
         small = rw (add_comm (R i) (m * R (i + w)), mul_comm m (R (i + w))) (digits_lt q.small p.small);
-        stands = stands-then s i (B (x % m)) (B (x / m)) w (wide (x % m))
+        stands = stands_then s i (B (x % m)) (B (x / m)) w (wide (x % m))
             (rw (low m some-m (R i) (R (i + w)) p.small) p.stands)
             (rw (high m some-m (R i) (R (i + w)) p.small) q.stands);
       }
 
 -- ---- 32 and 64 bits
 module _ (s : List ℕ) where
-  pub u32-read : (i x : ℕ) → x < 4294967296 → Stands s i (u32Bytes x) → u32_at s i ≡ x
-  unfolding u32Bytes
-  u32-read = double-read s (u16At s) u16Bytes 2 65536 (omega arith) length-u16 (u16-read s)
+  pub u32_read : (i x : ℕ) → x < 4294967296 → Stands s i (u32_bytes x) → u32_at s i ≡ x
+  unfolding u32_bytes
+  u32_read = double_read s (u16_at s) u16_bytes 2 65536 (omega arith) length_u16 (u16_read s)
 
-  pub u64-read : (i x : ℕ) → x < 2 ^ 64 → Stands s i (u64Bytes x) → u64At s i ≡ x
-  unfolding u64Bytes
-  u64-read = double-read s (u32_at s) u32Bytes 4 4294967296 (omega arith) length-u32 u32-read
+  pub u64_read : (i x : ℕ) → x < 2 ^ 64 → Stands s i (u64_bytes x) → u64_at s i ≡ x
+  unfolding u64_bytes
+  u64_read = double_read s (u32_at s) u32_bytes 4 4294967296 (omega arith) length_u32 u32_read
 
-  pub i64-read : (i : ℕ) (z : ℤ) → SFits w64 z → Stands s i (i64Bytes z) → i64At s i ≡ z
-  unfolding i64Bytes
-  i64-read i z f h = ap signed (u64-read i (unsigned z) (unsigned_small z f) h) ∙ signed-unsigned z f
+  pub i64_read : (i : ℕ) (z : ℤ) → SFits w64 z → Stands s i (i64_bytes z) → i64_at s i ≡ z
+  unfolding i64_bytes
+  i64_read i z f h = ap signed (u64_read i (unsigned z) (unsigned_small z f) h) ∙ signed-unsigned z f
 
   module _ (b : Bytes s) where
-    pub u32-stands : (i : ℕ) → i + 4 ≤ length s → Read s i 4294967296 (u32_at s i) (u32Bytes (u32_at s i))
-    unfolding u32Bytes
-    u32-stands = double-stands s (u16At s) u16Bytes 2 65536 (omega arith) length-u16 (u16-stands s b)
+    pub u32_stands : (i : ℕ) → i + 4 ≤ length s → Read s i 4294967296 (u32_at s i) (u32_bytes (u32_at s i))
+    unfolding u32_bytes
+    u32_stands = double_stands s (u16_at s) u16_bytes 2 65536 (omega arith) length_u16 (u16_stands s b)
 
-    pub u64-stands : (i : ℕ) → i + 8 ≤ length s → Read s i (2 ^ 64) (u64At s i) (u64Bytes (u64At s i))
-    unfolding u64Bytes
-    u64-stands = double-stands s (u32_at s) u32Bytes 4 4294967296 (omega arith) length-u32 u32-stands
+    pub u64_stands : (i : ℕ) → i + 8 ≤ length s → Read s i (2 ^ 64) (u64_at s i) (u64_bytes (u64_at s i))
+    unfolding u64_bytes
+    u64_stands = double_stands s (u32_at s) u32_bytes 4 4294967296 (omega arith) length_u32 u32_stands
 
-    pub i64-stands : (i : ℕ) → i + 8 ≤ length s → Stands s i (i64Bytes (i64At s i))
-    unfolding i64Bytes
-    i64-stands i h = let r = u64-stands i h in rw (unsigned_signed (u64At s i) r.small) r.stands
+    pub i64_stands : (i : ℕ) → i + 8 ≤ length s → Stands s i (i64_bytes (i64_at s i))
+    unfolding i64_bytes
+    i64_stands i h = let r = u64_stands i h in rw (unsigned_signed (u64_at s i) r.small) r.stands
 
 -- eight bytes that are the same are the same number
-pub word_same : (x s : List ℕ) (k p : ℕ) → ((j : ℕ) → j < 8 → get_or x (k + j) 0 ≡ byte_at s (p + j)) → u64At x k ≡ u64At s p
+pub word_same : (x s : List ℕ) (k p : ℕ) → ((j : ℕ) → j < 8 → get_or x (k + j) 0 ≡ byte_at s (p + j)) → u64_at x k ≡ u64_at s p
 word_same x s k p h =
     omega (
       arith,

@@ -58,13 +58,13 @@ module _ (s : List ℕ) where
     pub stands_after : Stands s i (xs ++ ys) → Stands s (i + n) ys
     stands_after h = subst (λ (k : ℕ). Stands s (i + k) ys) e (stands-right i xs ys h)
 
-    pub stands-then : Stands s i xs → Stands s (i + n) ys → Stands s i (xs ++ ys)
-    stands-then h g = stands-append i xs ys h (subst (λ (k : ℕ). Stands s (i + k) ys) (sym e) g)
+    pub stands_then : Stands s i xs → Stands s (i + n) ys → Stands s i (xs ++ ys)
+    stands_then h g = stands-append i xs ys h (subst (λ (k : ℕ). Stands s (i + k) ys) (sym e) g)
 
   -- four bytes side by side
-  pub stands-4 : (i a b c d : ℕ) → i + 4 ≤ length s → get_or s i 0 ≡ a → get_or s (i + 1) 0 ≡ b → get_or s (i + 2) 0 ≡ c
+  pub stands_4 : (i a b c d : ℕ) → i + 4 ≤ length s → get_or s i 0 ≡ a → get_or s (i + 1) 0 ≡ b → get_or s (i + 2) 0 ≡ c
       → get_or s (i + 3) 0 ≡ d → Stands s i (a ∷ b ∷ c ∷ d ∷ [])
-  stands-4 i a b c d l ea eb ec ed =
+  stands_4 i a b c d l ea eb ec ed =
       let at : ℕ → ℕ = λ k. get_or s k 0 in
       stands-cons i a (b ∷ c ∷ d ∷ []) ea (omega arith)
       (stands-cons (i + 1) b (c ∷ d ∷ []) eb (omega arith)
@@ -81,8 +81,8 @@ module _ (s : List ℕ) where
   stands_self = record { inside = omega arith; same = λ j l. ap (λ (x : ℕ). get_or s x 0) (zero-add j) }
 
 -- what stands at a place is that part of the bytes
-pub part-stands : (s : List ℕ) (p n : ℕ) (bs : List ℕ) → length bs ≡ n → Stands s p bs → bs ≡ take n (drop p s)
-part-stands s p n bs e h =
+pub part_stands : (s : List ℕ) (p n : ℕ) (bs : List ℕ) → length bs ≡ n → Stands s p bs → bs ≡ take n (drop p s)
+part_stands s p n bs e h =
     let l : length (take n (drop p s)) ≡ n = length-take-le n (drop p s) (omega (arith, h.inside, length-drop p s)) in
     ext_get_or 0 bs (take n (drop p s)) (e ∙ sym l)
     (λ j g. sym (get_or-take n (drop p s) j 0 (omega arith) ∙ get_or-drop p s j 0 ∙ h.same j g))

@@ -1,8 +1,8 @@
 // Little-endian numbers of a slice of bytes.
 ghost use Rattle.std.specs.Prelude.{◌≡◌, [], ◌∷◌, ◌+◌, ◌≤◌, ◌<◌, length, take, drop, replicate};
-ghost use Rattle.bytes.specs.Little.{u16At, u32_at, u64At, i64At, signed};
+ghost use Rattle.bytes.specs.Little.{u16_at, u32_at, u64_at, i64_at, signed};
 ghost use Rattle.bytes.specs.Put.{put};
-ghost use Rattle.bytes.specs.Bytes.{u16Bytes, u32Bytes, u64Bytes, i64Bytes, unsigned};
+ghost use Rattle.bytes.specs.Bytes.{u16_bytes, u32_bytes, u64_bytes, i64_bytes, unsigned};
 
 fn wide(x: u8) -> u16
     ensures { (result ≡ x) × (result < 256) }
@@ -12,7 +12,7 @@ fn wide(x: u8) -> u16
 
 pub fn u16_at(s: &[u8], at: usize) -> u16
     requires { at + 2 ≤ length s.now }
-    ensures { result ≡ u16At s.now at }
+    ensures { result ≡ u16_at s.now at }
 {
     let a = wide(s[at]);
     let b = wide(s[at + 1]);
@@ -30,7 +30,7 @@ pub fn u32_at(s: &[u8], at: usize) -> u32
 
 pub fn u64_at(s: &[u8], at: usize) -> u64
     requires { at + 8 ≤ length s.now }
-    ensures { result ≡ u64At s.now at }
+    ensures { result ≡ u64_at s.now at }
 {
     let a = u32_at(s, at) as u64;
     let b = u32_at(s, at + 4) as u64;
@@ -50,7 +50,7 @@ fn signed_of(x: u64) -> i64
 
 pub fn i64_at(s: &[u8], at: usize) -> i64
     requires { at + 8 ≤ length s.now }
-    ensures { result ≡ i64At s.now at }
+    ensures { result ≡ i64_at s.now at }
 {
     signed_of(u64_at(s, at))
 }
@@ -68,7 +68,7 @@ pub fn put_4(out: &mut [u8], at: usize, a: u8, b: u8, c: u8, d: u8)
 
 pub fn put_u16(out: &mut [u8], at: usize, x: u16)
     requires { at + 2 ≤ length out.old }
-    ensures { out.new ≡ put out.old at (u16Bytes x) }
+    ensures { out.new ≡ put out.old at (u16_bytes x) }
 {
     out[at] = (x % 256) as u8;
     out[at + 1] = (x / 256 % 256) as u8;
@@ -76,7 +76,7 @@ pub fn put_u16(out: &mut [u8], at: usize, x: u16)
 
 pub fn put_u32(out: &mut [u8], at: usize, x: u32)
     requires { at + 4 ≤ length out.old }
-    ensures { out.new ≡ put out.old at (u32Bytes x) }
+    ensures { out.new ≡ put out.old at (u32_bytes x) }
 {
     put_u16(out, at, (x % 65536) as u16);
     put_u16(out, at + 2, (x / 65536) as u16);
@@ -84,7 +84,7 @@ pub fn put_u32(out: &mut [u8], at: usize, x: u32)
 
 fn put_u64(out: &mut [u8], at: usize, x: u64)
     requires { at + 8 ≤ length out.old }
-    ensures { out.new ≡ put out.old at (u64Bytes x) }
+    ensures { out.new ≡ put out.old at (u64_bytes x) }
 {
     put_u32(out, at, (x % 4294967296) as u32);
     put_u32(out, at + 4, (x / 4294967296) as u32);
@@ -103,7 +103,7 @@ fn unsigned_of(z: i64) -> u64
 
 pub fn put_i64(out: &mut [u8], at: usize, z: i64)
     requires { at + 8 ≤ length out.old }
-    ensures { out.new ≡ put out.old at (i64Bytes z) }
+    ensures { out.new ≡ put out.old at (i64_bytes z) }
 {
     put_u64(out, at, unsigned_of(z));
 }

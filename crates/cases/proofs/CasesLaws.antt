@@ -23,7 +23,7 @@ use Rattle.report_lines.specs.FourLines as FourLines
 use Rattle.cases.specs.Books.{empty, tax, circle, unordered, ordered, night}
 use Rattle.cases.specs.Case.{Every}
 use Rattle.cases.proofs.ToldLaws.{refused, bound, lines, endless-lines}
-use Rattle.cases.proofs.SheetsLaws.{emptySheet, taxSheet, circleSheet, unorderedSheet, orderedSheet, nightSheet, sheets}
+use Rattle.cases.proofs.SheetsLaws.{empty_sheet, tax_sheet, circle_sheet, unordered_sheet, ordered_sheet, night_sheet, sheets}
 use Rattle.cases.specs.Cases.{table}
 
 infixr 2 ◌and◌
@@ -31,34 +31,34 @@ abbrev ◌and◌ : {A B : Type 0} → A → B → A × B
 a and b = (a, b)
 
 pub all_hold : Every table
-unfolding Search.some Search.least Mask.has Mask.meet Mask.beyond Mask.mask_of Graph.leads Joined.joined Numbers.countsBad
-    Numbers.cellsBad Numbers.formsBad Numbers.twice Numbers.lettersBad Numbers.same_name Numbers.nameTaken
-    Numbers.ruleNumber Numbers.ruleSlotBad Uses.reads Uses.writes Table.goesBefore Check.sizesBad Check.number_at
-    Check.firstBad Check.first_slot Graph.cyclic Check.checkOf BodyStarts.start_at Read.contentsBad Read.tableIn Read.number_in
-    Read.firstIn Read.read_of Sums.compares Sums.holds Amounts.anyFalse Sums.scaled
-    Sums.operated Sums.value_of Amounts.anyOut Amounts.storedBy Fit.stateBad Fit.heldBack Step.rested Step.marked
-    Step.wakes Step.storedAndWoken Step.effect Step.answered Step.stepNumbers Step.step_of Step.postNumbers Step.post_of
-    Weight.weightOf Weight.total Masks.commute Masks.mayTrigger Masks.writesInto Written.withZeros Text.digitsTo
-    Text.spaced Text.line Text.members FourLines.endsLine FourLines.pairsLine FourLines.clearedLine
-    FourLines.fourLines
+unfolding Search.some Search.least Mask.has Mask.meet Mask.beyond Mask.mask_of Graph.leads Joined.joined Numbers.counts_bad
+    Numbers.cells_bad Numbers.forms_bad Numbers.twice Numbers.letters_bad Numbers.same_name Numbers.name_taken
+    Numbers.rule_number Numbers.rule_slot_bad Uses.reads Uses.writes Table.goes_before Check.sizes_bad Check.number_at
+    Check.first_bad Check.first_slot Graph.cyclic Check.check_of BodyStarts.start_at Read.contents_bad Read.table_in Read.number_in
+    Read.first_in Read.read_of Sums.compares Sums.holds Amounts.any_false Sums.scaled
+    Sums.operated Sums.value_of Amounts.any_out Amounts.stored_by Fit.state_bad Fit.held_back Step.rested Step.marked
+    Step.wakes Step.stored_and_woken Step.effect Step.answered Step.step_numbers Step.step_of Step.post_numbers Step.post_of
+    Weight.weight_of Weight.total Masks.commute Masks.may_trigger Masks.writes_into Written.with_zeros Text.digits_to
+    Text.spaced Text.line Text.members FourLines.ends_line FourLines.pairs_line FourLines.cleared_line
+    FourLines.four_lines
 all_hold =
     (refl, refl, refl, refl)
-    and lines empty emptySheet _ sheets.empty refl 0 0 refl refl refl
+    and lines empty empty_sheet _ sheets.empty refl 0 0 refl refl refl
     and (refl, refl, refl, refl)
     and refused (1 ∷ 0 ∷ 1 ∷ []) refl
     and (refl, refl, refl, refl)
-    and lines tax taxSheet _ sheets.tax refl 1 1 refl refl refl
+    and lines tax tax_sheet _ sheets.tax refl 1 1 refl refl refl
     and refl
     and refl
     and refl
     and refl
     and refl
-    and endless-lines circle circleSheet _ sheets.circle 0 refl 1 refl refl
-    and lines unordered unorderedSheet _ sheets.unordered refl 3 3 refl refl refl
-    and lines ordered orderedSheet _ sheets.ordered refl 3 3 refl refl refl
-    and bound ordered orderedSheet _ sheets.ordered refl 1 2 refl refl
-    and bound ordered orderedSheet _ sheets.ordered refl 2 1 refl refl
-    and lines night nightSheet _ sheets.night refl 7 4 refl refl refl
+    and endless-lines circle circle_sheet _ sheets.circle 0 refl 1 refl refl
+    and lines unordered unordered_sheet _ sheets.unordered refl 3 3 refl refl refl
+    and lines ordered ordered_sheet _ sheets.ordered refl 3 3 refl refl refl
+    and bound ordered ordered_sheet _ sheets.ordered refl 1 2 refl refl
+    and bound ordered ordered_sheet _ sheets.ordered refl 2 1 refl refl
+    and lines night night_sheet _ sheets.night refl 7 4 refl refl refl
     and refl
     and refl
     and refl

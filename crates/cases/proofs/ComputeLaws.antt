@@ -17,22 +17,22 @@ use Rattle.analysis_pairs.proofs.SettleLaws.{settle}
 use Rattle.analysis_pairs.proofs.VerdictLaws.{guilty}
 use Rattle.analysis_masks.specs.declared.Report.{Report}
 use Rattle.analysis_marks.specs.AnalysisMarksInner.{Graphs}
-use Rattle.analysis_marks.specs.Marks.{failsAt}
+use Rattle.analysis_marks.specs.Marks.{fails_at}
 use Rattle.analysis_masks.proofs.AlikeLaws.{befores}
 
-unfoldable pub graphsOf : Masks → Graphs
-graphsOf m = record { n = m.n; trig = triggers m; before = befores m; clash = clashes m }
+unfoldable pub graphs_of : Masks → Graphs
+graphs_of m = record { n = m.n; trig = triggers m; before = befores m; clash = clashes m }
 
 -- ---- a pair: whether it fails, and the two culprits or 0
 
-abbrev pub verdictFrom : List ℕ → ℕ × ℕ → ℕ → Bool × ℕ × ℕ
-verdictFrom clash g x =
+abbrev pub verdict_from : List ℕ → ℕ × ℕ → ℕ → Bool × ℕ × ℕ
+verdict_from clash g x =
     cond (ltb x 32) (true, x, lowest (mask_of 32 (λ s. has (get_or clash x 0) s && has g.1 s))) (false, 0, 0)
 
 unfoldable pub verdict : List ℕ → List ℕ → List ℕ → ℕ → ℕ → Bool × ℕ × ℕ
 verdict trig before clash i j =
     let g = settle trig before 65 (2 ^ i) (2 ^ j) in
-    verdictFrom clash g (lowest (mask_of 32 (guilty clash g.0 g.1)))
+    verdict_from clash g (lowest (mask_of 32 (guilty clash g.0 g.1)))
 
 -- ---- the report
 
@@ -47,22 +47,22 @@ unfoldable pub locate : ℕ → ℕ → ℕ → ℕ × ℕ
 locate zero i left = (i, suc i + left)
 locate (suc k) i left = cond (ltb left (31 - i)) (i, suc i + left) (locate k (suc i) (left - (31 - i)))
 
-unfoldable pub marksOf : Graphs → List ℕ
-marksOf g = upto 496 (λ k. mark_of g (locate 31 0 k).0 (locate 31 0 k).1)
+unfoldable pub marks_of : Graphs → List ℕ
+marks_of g = upto 496 (λ k. mark_of g (locate 31 0 k).0 (locate 31 0 k).1)
 
 -- the first failing pair and its culprits, or zeros
-unfoldable pub firstFailing : Graphs → List ℕ → ℕ × ℕ × ℕ × ℕ
-firstFailing g q =
-    let p = locate 31 0 (least 496 (failsAt q)) in
+unfoldable pub first_failing : Graphs → List ℕ → ℕ × ℕ × ℕ × ℕ
+first_failing g q =
+    let p = locate 31 0 (least 496 (fails_at q)) in
     let v = verdict g.trig g.before g.clash p.0 p.1 in
-    cond (ltb (least 496 (failsAt q)) 496) (p.0, p.1, v.1, v.2) (0, 0, 0, 0)
+    cond (ltb (least 496 (fails_at q)) 496) (p.0, p.1, v.1, v.2) (0, 0, 0, 0)
 
-unfoldable pub reportBy : Graphs → Report
-reportBy g =
-    let q = marksOf g in
+unfoldable pub report_by : Graphs → Report
+report_by g =
+    let q = marks_of g in
     let f = mask_of 32 (λ r. leads g.trig g.n r r) in
-    let c = count 496 (failsAt q) in
-    let w = firstFailing g q in
+    let c = count 496 (fails_at q) in
+    let w = first_failing g q in
     record {
       number = 0;
       place = 255;
@@ -76,5 +76,5 @@ reportBy g =
       other = w.3;
     }
 
-abbrev pub reportOf : Masks → Report
-reportOf m = reportBy (graphsOf m)
+abbrev pub report_of : Masks → Report
+report_of m = report_by (graphs_of m)

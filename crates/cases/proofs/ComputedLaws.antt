@@ -14,38 +14,38 @@ use Rattle.mask.specs.Search.{count, least}
 use Rattle.mask.proofs.SearchLaws.{least-is}
 use Rattle.mask.specs.Mask.{has, mask_of}
 use Rattle.mask.specs.MaskInner.{lowest}
-use Rattle.mask.proofs.LoopsLaws.{picked_all, picked-every, maskOf-picked, maskOf-lt}
+use Rattle.mask.proofs.LoopsLaws.{picked_all, picked_every, mask_of_picked, mask_of-lt}
 use Rattle.graph.specs.Graph.{leads}
 use Rattle.graph.specs.GraphInner.{Rows}
 use Rattle.graph.proofs.GraphLaws.{leads-iff, leads-below}
-use Rattle.rule.proofs.FillLaws.{length-upto, getD-upto}
+use Rattle.rule.proofs.FillLaws.{length-upto, get_or-upto}
 use Rattle.analysis_pairs.specs.declared.Masks.{Masks}
-use Rattle.analysis_pairs.specs.AnalysisPairsInner.{Judged, edge, rowRules}
+use Rattle.analysis_pairs.specs.AnalysisPairsInner.{Judged, edge, row_rules}
 use Rattle.analysis_pairs.proofs.RulesLaws.{fails-not-passes}
 use Rattle.analysis_pairs.specs.RuleMasks.{triggers}
 use Rattle.analysis_pairs.proofs.SettleLaws.{settle, Settled, settled}
 use Rattle.analysis_pairs.proofs.VerdictLaws.{guilty, judged-passing, judged-failing}
 use Rattle.analysis_masks.specs.declared.Report.{Report}
-use Rattle.analysis_marks.specs.AnalysisMarksInner.{Graphs, graphRules, Marks}
+use Rattle.analysis_marks.specs.AnalysisMarksInner.{Graphs, graph_rules, Marks}
 use Rattle.analysis_masks.specs.AnalysisMasksInner.{Orderly}
 use Rattle.analysis_marks.specs.Index.{start, index}
-use Rattle.analysis_marks.proofs.IndexLaws.{start-next, row_low, index-lt, index-inj}
-use Rattle.analysis_marks.specs.Marks.{Marked, absent, ordered, passes, fails, failsAt, FirstOf}
+use Rattle.analysis_marks.proofs.IndexLaws.{start-next, row_low, index-lt, index_inj}
+use Rattle.analysis_marks.specs.Marks.{Marked, absent, ordered, passes, fails, fails_at, FirstOf}
 use Rattle.analysis_masks.specs.Report.{Reported}
 use Rattle.analysis_masks.proofs.ReportLaws.{unique}
 use Rattle.analysis_marks.proofs.MarkingLaws.{Drawn}
 use Rattle.analysis_masks.proofs.AlikeLaws.{alike-rows, triggers-rows}
-use Rattle.analysis_masks.proofs.ReportingLaws.{faulty-iff, marks-of, cleared-iff}
-use Rattle.analysis_marks.proofs.MarkedLaws.{marks-twos, first-none, first_some, first_alike}
-use Rattle.cases.proofs.ComputeLaws.{verdict, graphsOf, mark_of, locate, marksOf, firstFailing, reportBy, reportOf}
+use Rattle.analysis_masks.proofs.ReportingLaws.{faulty-iff, marks_of_lem, cleared-iff}
+use Rattle.analysis_marks.proofs.MarkedLaws.{marks_twos, first-none, first_some, first_alike}
+use Rattle.cases.proofs.ComputeLaws.{verdict, graphs_of, mark_of, locate, marks_of, first_failing, report_by, report_of}
 
 -- ---- a pair
 
 read : (f : ℕ → Bool) (s : ℕ) → s < 32 → has (mask_of 32 f) s ≡ f s
-read f s l = picked_all f 32 (mask_of 32 f) (maskOf-picked 32 f) s l
+read f s l = picked_all f 32 (mask_of 32 f) (mask_of_picked 32 f) s l
 
 pub verdict-judged : (trig before clash : List ℕ) (i j : ℕ) → i < 32 → j < 32 → Rows 32 trig
-    → (let v = verdict trig before clash i j in Judged (rowRules trig before clash) i j v.0 v.1 v.2)
+    → (let v = verdict trig before clash i j in Judged (row_rules trig before clash) i j v.0 v.1 v.2)
 unfolding verdict
 verdict-judged trig before clash i j li lj rows = pick (ltb x 32) refl
   where
@@ -70,7 +70,7 @@ verdict-judged trig before clash i j li lj rows = pick (ltb x 32) refl
     Out : Bool → Type 0
     Out t =
         let v : Bool × ℕ × ℕ = cond t (true, x, lowest q) (false, 0, 0) in
-        Judged (rowRules trig before clash) i j v.0 v.1 v.2
+        Judged (row_rules trig before clash) i j v.0 v.1 v.2
 
     pick : (t : Bool) → ltb x 32 ≡ t → Out t
     pick true e =
@@ -106,10 +106,10 @@ locates k l = located 31 0 k k (omega arith) l (omega arith)
 -- ---- the marks
 module _ (g : Graphs) (rows : Rows 32 g.trig) where
   judged : (i j : ℕ) → i < 32 → j < 32
-      → (let v = verdict g.trig g.before g.clash i j in Judged (graphRules g) i j v.0 v.1 v.2)
+      → (let v = verdict g.trig g.before g.clash i j in Judged (graph_rules g) i j v.0 v.1 v.2)
   judged i j li lj = verdict-judged g.trig g.before g.clash i j li lj rows
 
-  marked : (i j : ℕ) → i < 32 → j < 32 → Marked (graphRules g) g.n i j (mark_of g i j)
+  marked : (i j : ℕ) → i < 32 → j < 32 → Marked (graph_rules g) g.n i j (mark_of g i j)
   unfolding mark_of
   marked i j li lj =
       pick (leb g.n j) (edge g.before i j) (edge g.before j i)
@@ -117,7 +117,7 @@ module _ (g : Graphs) (rows : Rows 32 g.trig) where
     where
       pick : (a b c d : Bool) → leb g.n j ≡ a → edge g.before i j ≡ b → edge g.before j i ≡ c
           → (verdict g.trig g.before g.clash i j).0 ≡ d
-          → Marked (graphRules g) g.n i j (cond a 0 (cond (b || c) 0 (cond d 2 1)))
+          → Marked (graph_rules g) g.n i j (cond a 0 (cond (b || c) 0 (cond d 2 1)))
       pick true b c d x y z w = absent (leb-true g.n j x)
       pick false true c d x y z w = ordered (leb-false g.n j x) (inl y)
       pick false false true d x y z w = ordered (leb-false g.n j x) (inr z)
@@ -128,27 +128,27 @@ module _ (g : Graphs) (rows : Rows 32 g.trig) where
           passes (leb-false g.n j x) (λ e. false≢true (sym y ∙ e), λ e. false≢true (sym z ∙ e))
           ((judged i j li lj).passing w).0
 
-  marks-are : Marks g (marksOf g)
-  unfolding marksOf
-  marks-are i j low high =
+  marks_are : Marks g (marks_of g)
+  unfolding marks_of
+  marks_are i j low high =
       let l : index i j < 496 = index-lt i j low high in
       let w : Located (locate 31 0 (index i j)) (index i j) = locates (index i j) l in
       let p = locate 31 0 (index i j) in
-      let e : (p.0 ≡ i) × (p.1 ≡ j) = index-inj p.0 p.1 i j w.low w.high low high w.at in
-      subst (Marked (graphRules g) g.n i j)
-      (sym (getD-upto 496 (λ k. mark_of g (locate 31 0 k).0 (locate 31 0 k).1) 0 (index i j) l ∙ ap₂ (mark_of g) e.0
+      let e : (p.0 ≡ i) × (p.1 ≡ j) = index_inj p.0 p.1 i j w.low w.high low high w.at in
+      subst (Marked (graph_rules g) g.n i j)
+      (sym (get_or-upto 496 (λ k. mark_of g (locate 31 0 k).0 (locate 31 0 k).1) 0 (index i j) l ∙ ap₂ (mark_of g) e.0
       e.1))
       (marked i j (le_trans low (omega arith)) high)
 
-  first-is : (let w = firstFailing g (marksOf g) in FirstOf (graphRules g) (marksOf g) w.0 w.1 w.2 w.3)
-  unfolding firstFailing
+  first-is : (let w = first_failing g (marks_of g) in FirstOf (graph_rules g) (marks_of g) w.0 w.1 w.2 w.3)
+  unfolding first_failing
   first-is = pick (ltb k 496) refl
     where
       q : List ℕ
-      q = marksOf g
+      q = marks_of g
 
       k : ℕ
-      k = least 496 (failsAt q)
+      k = least 496 (fails_at q)
 
       p : ℕ × ℕ
       p = locate 31 0 k
@@ -157,36 +157,36 @@ module _ (g : Graphs) (rows : Rows 32 g.trig) where
       v = verdict g.trig g.before g.clash p.0 p.1
 
       pick : (t : Bool) → ltb k 496 ≡ t
-          → (let w : ℕ × ℕ × ℕ × ℕ = cond t (p.0, p.1, v.1, v.2) (0, 0, 0, 0) in FirstOf (graphRules g) q w.0
+          → (let w : ℕ × ℕ × ℕ × ℕ = cond t (p.0, p.1, v.1, v.2) (0, 0, 0, 0) in FirstOf (graph_rules g) q w.0
           w.1 w.2 w.3)
       pick true e =
           let l : k < 496 = ltb-true k 496 e in
           let w : Located p k = locates k l in
-          first_some (graphRules g) q p.0 p.1 k v.1 v.2 v.0 (marks-twos g q marks-are) refl l w.low w.high w.at
+          first_some (graph_rules g) q p.0 p.1 k v.1 v.2 v.0 (marks_twos g q marks_are) refl l w.low w.high w.at
           (judged p.0 p.1 (le_trans w.low (omega arith)) w.high)
       pick false e =
-          first-none (graphRules g) q k refl (omega (arith, ltb-false k 496 e, (least-is 496 (failsAt q)).bound))
+          first-none (graph_rules g) q k refl (omega (arith, ltb-false k 496 e, (least-is 496 (fails_at q)).bound))
 
 -- ---- the whole report
 
-marks-size : (g : Graphs) → length (marksOf g) ≡ 496
-unfolding marksOf
+marks-size : (g : Graphs) → length (marks_of g) ≡ 496
+unfolding marks_of
 marks-size g = length-upto 496 (λ k. mark_of g (locate 31 0 k).0 (locate 31 0 k).1)
 
 module _ (m : Masks) (o : Orderly m) where
-  drawn : Drawn m (graphsOf m)
-  unfolding graphsOf
+  drawn : Drawn m (graphs_of m)
+  unfolding graphs_of
   drawn = record { n = refl; trig = refl; alike = alike-rows m o }
 
-  rows : Rows 32 (graphsOf m).trig
-  unfolding graphsOf
+  rows : Rows 32 (graphs_of m).trig
+  unfolding graphs_of
   rows r = le_trans (triggers-rows m o r) (pow_mono o.few)
 
   round : ℕ → Bool
-  round r = leads (graphsOf m).trig (graphsOf m).n r r
+  round r = leads (graphs_of m).trig (graphs_of m).n r r
 
   low : (r : ℕ) (b : Bool) → 32 ≤ r → round r ≡ b → round r ≡ false
-  unfolding graphsOf round
+  unfolding graphs_of round
   low r true l e =
       let w : r < m.n =
       leads-below m.n (triggers-rows m o) ((leads-iff m.n (triggers m) (triggers-rows m o) r r).0 e) in
@@ -194,27 +194,27 @@ module _ (m : Masks) (o : Orderly m) where
   low r false l e = e
 
   faulty : (r : ℕ) → has (mask_of 32 round) r ≡ round r
-  faulty = picked-every round 32 (mask_of 32 round) (maskOf-picked 32 round) (λ r l. low r (round r) l refl)
+  faulty = picked_every round 32 (mask_of 32 round) (mask_of_picked 32 round) (λ r l. low r (round r) l refl)
 
-  pub reported : Reported m (reportOf m)
-  unfolding reportBy round
+  pub reported : Reported m (report_of m)
+  unfolding report_by round
   reported =
-      let g : Graphs = graphsOf m in
-      let k : Marks g (marksOf g) = marks-are g rows in
+      let g : Graphs = graphs_of m in
+      let k : Marks g (marks_of g) = marks_are g rows in
       let f = faulty-iff m o (mask_of 32 round) g.trig g.n drawn.trig drawn.n faulty in
       record {
         number = refl;
         place = refl;
         cleared =
-            cleared-iff m o g drawn (marksOf g) k (mask_of 32 round) (count 496 (failsAt (marksOf g)))
-            (maskOf-lt 32 round) f refl;
+            cleared-iff m o g drawn (marks_of g) k (mask_of 32 round) (count 496 (fails_at (marks_of g)))
+            (mask_of-lt 32 round) f refl;
         faulty = f;
         size = marks-size g;
-        marks = marks-of m o g drawn (marksOf g) k;
+        marks = marks_of_lem m o g drawn (marks_of g) k;
         failing = refl;
         first = first_alike drawn.alike (first-is g rows);
       }
 
   -- any report on these rules is the computed one
-  pub report-is : (r : Report) → Reported m r → r ≡ reportOf m
-  report-is r p = unique m r (reportOf m) p reported
+  pub report-is : (r : Report) → Reported m r → r ≡ report_of m
+  report-is r p = unique m r (report_of m) p reported

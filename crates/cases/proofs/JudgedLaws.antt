@@ -7,22 +7,22 @@ use lib.Dec.{eqb, ltb}
 use lib.ListN.{length, get_or}
 use borrow.Author.Tests.{eqb-true, not-true}
 use Rattle.mask.specs.Search.{some}
-use Rattle.mask.proofs.SearchLaws.{and-true-both}
+use Rattle.mask.proofs.SearchLaws.{and_true_both}
 use Rattle.mask.specs.Mask.{has, beyond}
 use Rattle.mask.proofs.BitsLaws.{has-zero}
 use Rattle.graph.specs.Graph.{leads}
-use Rattle.analysis_weights.specs.Weight.{total, weightOf}
+use Rattle.analysis_weights.specs.Weight.{total, weight_of}
 use Rattle.analysis_pairs.specs.declared.Masks.{Masks}
-use Rattle.analysis_pairs.specs.RuleMasks.{mayTrigger, commute}
+use Rattle.analysis_pairs.specs.RuleMasks.{may_trigger, commute}
 use Rattle.analysis_masks.specs.declared.Report.{Report}
 use Rattle.analysis_masks.specs.declared.Bound.{Bound}
 use Rattle.analysis_masks.specs.AnalysisMasksInner.{Orderly}
 use Rattle.analysis_masks.specs.Cleared.{Faulty}
 use Rattle.analysis_masks.specs.Report.{Reported}
 use Rattle.analysis_masks.specs.Bound.{Bounded}
-use Rattle.cases.proofs.ComputeLaws.{graphsOf, reportBy, reportOf}
+use Rattle.cases.proofs.ComputeLaws.{graphs_of, report_by, report_of}
 use Rattle.cases.proofs.ComputedLaws.{reported, report-is}
-use Rattle.cases.proofs.WrittenLaws.{withZeros, sheetMasks, wrong, written-orderly, graphs, rowDiffers, graphs-written}
+use Rattle.cases.proofs.WrittenLaws.{with_zeros, sheet_masks, wrong, written-orderly, graphs, row_differs, graphs-written}
 
 -- n rules: their four masks each; and who may trigger whom, who goes before whom, who does not commute with whom
 pub record Sheet : Type 0 where
@@ -36,7 +36,7 @@ pub record Sheet : Type 0 where
   pub clash : List ℕ
 
 abbrev pub masks : Sheet → Masks
-masks h = sheetMasks h.n h.watch h.reads h.writes h.precedes
+masks h = sheet_masks h.n h.watch h.reads h.writes h.precedes
 
 -- n masks in each list, no precedes bit beyond the rules, and the graphs are those of the masks
 abbrev pub tests : Sheet → List Bool
@@ -49,10 +49,10 @@ tests h =
     ∷ eqb (length h.trig) h.n
     ∷ eqb (length h.before) h.n
     ∷ eqb (length h.clash) h.n
-    ∷ not (some h.n (wrong h.n (withZeros h.precedes)))
-    ∷ not (some h.n (rowDiffers h.n (mayTrigger (masks h)) h.trig))
-    ∷ not (some h.n (rowDiffers h.n (leads (masks h).precedes h.n) h.before))
-    ∷ not (some h.n (rowDiffers h.n (λ r s. not (commute (masks h) r s)) h.clash))
+    ∷ not (some h.n (wrong h.n (with_zeros h.precedes)))
+    ∷ not (some h.n (row_differs h.n (may_trigger (masks h)) h.trig))
+    ∷ not (some h.n (row_differs h.n (leads (masks h).precedes h.n) h.before))
+    ∷ not (some h.n (row_differs h.n (λ r s. not (commute (masks h) r s)) h.clash))
     ∷ []
 
 abbrev pub every : List Bool → Bool
@@ -61,8 +61,8 @@ every (b ∷ bs) = b && every bs
 
 every-at : (l : List Bool) → every l ≡ true → (i : ℕ) → get_or l i true ≡ true
 every-at [] e i = refl
-every-at (b ∷ l) e zero = (and-true-both b (every l) e).0
-every-at (b ∷ l) e (suc i) = every-at l (and-true-both b (every l) e).1 i
+every-at (b ∷ l) e zero = (and_true_both b (every l) e).0
+every-at (b ∷ l) e (suc i) = every-at l (and_true_both b (every l) e).1 i
 
 -- the verdict, the faulty rules, the count of failing pairs, the first of them, its culprits
 abbrev pub Findings : Type 0
@@ -81,44 +81,44 @@ module _ (h : Sheet) (e : every (tests h) ≡ true) where
   none : (f : ℕ → Bool) → not (some h.n f) ≡ true → some h.n f ≡ false
   none f t = not-true (some h.n f) t
 
-  pub sheet-orderly : Orderly (masks h)
-  sheet-orderly =
+  pub sheet_orderly : Orderly (masks h)
+  sheet_orderly =
       written-orderly h.n h.watch h.reads h.writes h.precedes (test 0) (size h.watch (test 1))
       (size h.reads (test 2)) (size h.writes (test 3)) (size h.precedes (test 4))
-      (none (wrong h.n (withZeros h.precedes)) (test 8))
+      (none (wrong h.n (with_zeros h.precedes)) (test 8))
 
-  pub drawn : graphsOf (masks h) ≡ graphs h.n h.trig h.before h.clash
-  unfolding sheetMasks
+  pub drawn : graphs_of (masks h) ≡ graphs h.n h.trig h.before h.clash
+  unfolding sheet_masks
   drawn =
-      graphs-written (masks h) h.trig h.before h.clash sheet-orderly (size h.trig (test 5))
+      graphs-written (masks h) h.trig h.before h.clash sheet_orderly (size h.trig (test 5))
       (size h.before (test 6)) (size h.clash (test 7))
-      (none (rowDiffers h.n (mayTrigger (masks h)) h.trig) (test 9))
-      (none (rowDiffers h.n (leads (masks h).precedes h.n) h.before) (test 10))
-      (none (rowDiffers h.n (λ r s. not (commute (masks h) r s)) h.clash) (test 11))
+      (none (row_differs h.n (may_trigger (masks h)) h.trig) (test 9))
+      (none (row_differs h.n (leads (masks h).precedes h.n) h.before) (test 10))
+      (none (row_differs h.n (λ r s. not (commute (masks h) r s)) h.clash) (test 11))
 
-  module _ (x : Findings) (says : findings (reportBy (graphs h.n h.trig h.before h.clash)) ≡ x) where
+  module _ (x : Findings) (says : findings (report_by (graphs h.n h.trig h.before h.clash)) ≡ x) where
     -- what any report on these rules says
     pub report-says : (r : Report) → Reported (masks h) r → findings r ≡ x
-    report-says r p = ap findings (report-is (masks h) sheet-orderly r p ∙ ap reportBy drawn) ∙ says
+    report-says r p = ap findings (report-is (masks h) sheet_orderly r p ∙ ap report_by drawn) ∙ says
 
     faulty-is : (r : ℕ) → (has x.1 r ≡ true → Faulty (masks h) r) × (Faulty (masks h) r → has x.1 r ≡ true)
     unfolding findings
     faulty-is r =
-        let p : Reported (masks h) (reportOf (masks h)) = reported (masks h) sheet-orderly in
-        let q : (reportOf (masks h)).faulty ≡ x.1 = ap (λ (y : Findings). y.1) (report-says (reportOf (masks h)) p) in
+        let p : Reported (masks h) (report_of (masks h)) = reported (masks h) sheet_orderly in
+        let q : (report_of (masks h)).faulty ≡ x.1 = ap (λ (y : Findings). y.1) (report-says (report_of (masks h)) p) in
         (λ w. (p.faulty r).0 (ap (λ (m : ℕ). has m r) q ∙ w), λ w. sym (ap (λ (m : ℕ). has m r) q) ∙ (p.faulty r).1 w)
 
     -- the step bound of a set, where the graph has no cycle
     pub bound-is : x.1 ≡ 0 → (set v : ℕ) → beyond set h.n ≡ false
-        → total 32 set (weightOf (withZeros h.trig) h.n) ≡ v → (b : Bound)
+        → total 32 set (weight_of (with_zeros h.trig) h.n) ≡ v → (b : Bound)
         → Bounded (masks h) set b → (b.number ≡ 0) × (b.bound ≡ v)
-    unfolding sheetMasks graphsOf graphs
+    unfolding sheet_masks graphs_of graphs
     bound-is none set v fits sum b p =
         let q = p.done fits (λ r w. false≢true (sym (ap (λ (m : ℕ). has m r) none ∙ has-zero r) ∙ (faulty-is r).1 w)) in
-        (q.0, q.1 ∙ ap (λ g. total 32 set (weightOf g.trig h.n)) drawn ∙ sum)
+        (q.0, q.1 ∙ ap (λ g. total 32 set (weight_of g.trig h.n)) drawn ∙ sum)
 
     -- and where it has one: rule r reaches itself
     pub bound-refused : (r : ℕ) → has x.1 r ≡ true → (set : ℕ) → beyond set h.n ≡ false → (b : Bound)
         → Bounded (masks h) set b → (b.number ≡ 17) × (b.bound ≡ 0)
-    unfolding sheetMasks
+    unfolding sheet_masks
     bound-refused r faulty set fits b p = p.endless fits r ((faulty-is r).0 faulty)

@@ -25,12 +25,12 @@ use Rattle.cases.proofs.JudgedLaws.{Sheet, Findings, findings}
 use Rattle.cases.proofs.ToldLaws.{OnSheet}
 
 -- "no rules; cleared"
-abbrev pub emptySheet : Sheet
-emptySheet = record { n = 0; watch = []; reads = []; writes = []; precedes = []; trig = []; before = []; clash = [] }
+abbrev pub empty_sheet : Sheet
+empty_sheet = record { n = 0; watch = []; reads = []; writes = []; precedes = []; trig = []; before = []; clash = [] }
 
 -- tax watches and reads cell 0 and writes cell 1
-abbrev pub taxSheet : Sheet
-taxSheet =
+abbrev pub tax_sheet : Sheet
+tax_sheet =
     record {
       n = 1;
       watch = 1 ∷ [];
@@ -43,8 +43,8 @@ taxSheet =
     }
 
 -- "a rule that watches and writes cell 0"; it reads it too
-abbrev pub circleSheet : Sheet
-circleSheet =
+abbrev pub circle_sheet : Sheet
+circle_sheet =
     record {
       n = 1;
       watch = 1 ∷ [];
@@ -57,8 +57,8 @@ circleSheet =
     }
 
 -- "tax watches cell 0 and writes cell 1, post watches and reads cell 1 and writes cell 2"
-abbrev taxAndPostSheet : ℕ → Sheet
-taxAndPostSheet precedes =
+abbrev tax_and_post_sheet : ℕ → Sheet
+tax_and_post_sheet precedes =
     record {
       n = 2;
       watch = 1 ∷ 2 ∷ [];
@@ -71,17 +71,17 @@ taxAndPostSheet precedes =
     }
 
 -- "unordered"
-abbrev pub unorderedSheet : Sheet
-unorderedSheet = taxAndPostSheet 0
+abbrev pub unordered_sheet : Sheet
+unordered_sheet = tax_and_post_sheet 0
 
 -- "With tax before post"
-abbrev pub orderedSheet : Sheet
-orderedSheet = taxAndPostSheet 2
+abbrev pub ordered_sheet : Sheet
+ordered_sheet = tax_and_post_sheet 2
 
 -- "Rule 0 watches cell 0, sets cell 1 to cell 0 + 1. Rule 1 watches cell 0, sets cell 2 to 9. Rule 2 watches cell 1,
 -- sets cell 2 to 7, goes before 0 and 1."
-abbrev pub nightSheet : Sheet
-nightSheet =
+abbrev pub night_sheet : Sheet
+night_sheet =
     record {
       n = 3;
       watch = 1 ∷ 1 ∷ 2 ∷ [];
@@ -99,22 +99,22 @@ clear = (true, 0, 0, (0, 0), (0, 0))
 
 -- each book has the rules of its sheet, and its report says so
 pub record Sheeted : Type 0 where
-  pub empty : OnSheet Books.empty emptySheet clear
-  pub tax : OnSheet Books.tax taxSheet clear
-  pub circle : OnSheet Books.circle circleSheet (false, 1, 0, (0, 0), (0, 0))
-  pub unordered : OnSheet Books.unordered unorderedSheet (false, 0, 1, (0, 1), (0, 1))
-  pub ordered : OnSheet Books.ordered orderedSheet clear
+  pub empty : OnSheet Books.empty empty_sheet clear
+  pub tax : OnSheet Books.tax tax_sheet clear
+  pub circle : OnSheet Books.circle circle_sheet (false, 1, 0, (0, 0), (0, 0))
+  pub unordered : OnSheet Books.unordered unordered_sheet (false, 0, 1, (0, 1), (0, 1))
+  pub ordered : OnSheet Books.ordered ordered_sheet clear
   -- "(0,1) fails through 2 and 1"
-  pub night : OnSheet Books.night nightSheet (false, 0, 1, (0, 1), (2, 1))
+  pub night : OnSheet Books.night night_sheet (false, 0, 1, (0, 1), (2, 1))
 
 pub sheets : Sheeted
 unfolding Search.some Search.least Search.count Mask.has Mask.meet MaskInner.lowest Mask.beyond Mask.mask_of Graph.leads
-    Numbers.countsBad Numbers.cellsBad Numbers.formsBad Numbers.twice Numbers.lettersBad Numbers.same_name
-    Numbers.nameTaken Numbers.ruleNumber Numbers.ruleSlotBad Uses.reads Uses.writes Table.goesBefore Check.sizesBad
-    Check.number_at Check.firstBad Check.first_slot Graph.cyclic Check.checkOf BodyStarts.start_at Read.contentsBad Read.tableIn
-    Read.number_in Read.firstIn Read.read_of Masks.mayTrigger Masks.writesInto Masks.commute
-    Growing.grows Settle.settle Verdict.guilty Compute.verdict Index.start Compute.mark_of Compute.locate Compute.marksOf
-    Compute.firstFailing Compute.reportBy Written.withZeros Written.sheetMasks Written.wrong Written.graphs Written.rowDiffers findings
+    Numbers.counts_bad Numbers.cells_bad Numbers.forms_bad Numbers.twice Numbers.letters_bad Numbers.same_name
+    Numbers.name_taken Numbers.rule_number Numbers.rule_slot_bad Uses.reads Uses.writes Table.goes_before Check.sizes_bad
+    Check.number_at Check.first_bad Check.first_slot Graph.cyclic Check.check_of BodyStarts.start_at Read.contents_bad Read.table_in
+    Read.number_in Read.first_in Read.read_of Masks.may_trigger Masks.writes_into Masks.commute
+    Growing.grows Settle.settle Verdict.guilty Compute.verdict Index.start Compute.mark_of Compute.locate Compute.marks_of
+    Compute.first_failing Compute.report_by Written.with_zeros Written.sheet_masks Written.wrong Written.graphs Written.row_differs findings
 sheets =
     record {
       empty = record { fair = refl; says = refl; read = refl; checked = refl; masks = refl };

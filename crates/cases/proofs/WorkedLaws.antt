@@ -22,7 +22,7 @@ use Rattle.machine_spec.specs.Step.{moved, step_of}
 use Rattle.machine_spec.specs.Run as Run
 use Rattle.machine_spec.specs.Run.{ran, run_of}
 use Rattle.cases.specs.Books.{night}
-use Rattle.cases.specs.Case.{Holds, reads, steps, state, bookTable}
+use Rattle.cases.specs.Case.{Holds, reads, steps, state, book_table}
 use Rattle.cases.specs.Cases.{adds, evening}
 
 -- the lowest amount in range: `negsuc k` is -(k + 1)
@@ -39,8 +39,8 @@ abbrev pub once : List ℕ
 once = one 45 1 (replicate 12 0 ++ (0 ∷ 0 ∷ 0 ∷ 0 ∷ 1 ∷ []) ++ replicate 15 0)
 
 -- its assignment has the unknown code 9, and a target that a book of one cell does not have
-abbrev pub bothWrong : List ℕ
-bothWrong = one 33 0 ((1 ∷ 9 ∷ []) ++ replicate 18 0)
+abbrev pub both_wrong : List ℕ
+both_wrong = one 33 0 ((1 ∷ 9 ∷ []) ++ replicate 18 0)
 
 pub record Worked : Type 0 where
   -- "A x p / q, cut toward zero"
@@ -49,22 +49,22 @@ pub record Worked : Type 0 where
   pub lowest : Holds (adds (replicate 8 0) fewest fewest 0)
   pub below : Holds (adds (replicate 8 255) fewest fewest 1)
   -- "*Run* takes the lowest-numbered eligible rule until none waits"
-  pub run : run_of (bookTable night) evening 9 ≡ ran 0 255 (state (pos 5 ∷ pos 6 ∷ pos 9 ∷ []) 0 0) 3
+  pub run : run_of (book_table night) evening 9 ≡ ran 0 255 (state (pos 5 ∷ pos 6 ∷ pos 9 ∷ []) 0 0) 3
   -- "Stepping a rule that isn't waiting: 13, even if a waiting rule goes before it."
-  pub asleep : step_of (bookTable night) (state (pos 5 ∷ pos 6 ∷ []) 6 0) 0 ≡ moved 13 255 (state (pos 5 ∷ pos 6 ∷ []) 6 0)
+  pub asleep : step_of (book_table night) (state (pos 5 ∷ pos 6 ∷ []) 6 0) 0 ≡ moved 13 255 (state (pos 5 ∷ pos 6 ∷ []) 6 0)
   -- a test is judged on the amount before the step
   pub tested : Holds (steps once (state (pos 0 ∷ []) 1 0) (0 ∷ []) (state (pos 1 ∷ []) 0 0))
   pub untrue : Holds (steps once (state (pos 2 ∷ []) 1 0) (0 ∷ []) (state (pos 2 ∷ []) 0 0))
   -- "The first that applies is given": 6, and not 7
-  pub first : Holds (reads bothWrong 6 0 0 0)
+  pub first : Holds (reads both_wrong 6 0 0 0)
 
 pub worked : Worked
-unfolding Search.some Search.least Mask.has Mask.meet Mask.beyond Mask.mask_of Graph.leads Joined.joined Numbers.countsBad
-    Numbers.cellsBad Numbers.formsBad Numbers.twice Numbers.lettersBad Numbers.same_name Numbers.nameTaken Numbers.ruleNumber
-    Numbers.ruleSlotBad Table.goesBefore Check.sizesBad Check.number_at Check.firstBad Check.first_slot Graph.cyclic Check.checkOf
-    BodyStarts.start_at Read.contentsBad Read.tableIn Read.number_in Read.firstIn Read.read_of Sums.compares Sums.holds
-    Amounts.anyFalse Sums.scaled Sums.operated Sums.value_of Amounts.anyOut Amounts.storedBy Fit.stateBad Fit.heldBack Step.rested
-    Step.marked Step.wakes Step.storedAndWoken Step.effect Step.answered Step.stepNumbers Step.step_of Run.runs Run.run_of
+unfolding Search.some Search.least Mask.has Mask.meet Mask.beyond Mask.mask_of Graph.leads Joined.joined Numbers.counts_bad
+    Numbers.cells_bad Numbers.forms_bad Numbers.twice Numbers.letters_bad Numbers.same_name Numbers.name_taken Numbers.rule_number
+    Numbers.rule_slot_bad Table.goes_before Check.sizes_bad Check.number_at Check.first_bad Check.first_slot Graph.cyclic Check.check_of
+    BodyStarts.start_at Read.contents_bad Read.table_in Read.number_in Read.first_in Read.read_of Sums.compares Sums.holds
+    Amounts.any_false Sums.scaled Sums.operated Sums.value_of Amounts.any_out Amounts.stored_by Fit.state_bad Fit.held_back Step.rested
+    Step.marked Step.wakes Step.stored_and_woken Step.effect Step.answered Step.step_numbers Step.step_of Run.runs Run.run_of
 worked =
     record {
       cut = refl;

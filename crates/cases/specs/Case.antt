@@ -10,7 +10,7 @@ use Rattle.machine_spec.specs.State.{zeros}
 use Rattle.machine_spec.specs.Step.{moved, step_of, post_of}
 use Rattle.analysis_pairs.specs.RuleMasks.{commute}
 use Rattle.analysis_masks.specs.declared.Bound.{Bound}
-use Rattle.analysis.specs.TableMasks.{masksOf}
+use Rattle.analysis.specs.TableMasks.{masks_of}
 use Rattle.analysis.specs.Says.{BoundSays}
 use Rattle.report_text.specs.Text.{letters}
 use Rattle.report_lines.specs.Lines.{TextOf}
@@ -23,8 +23,8 @@ abbrev pub state : List ℤ → ℕ → ℕ → State
 state xs waiting faults = record { cells = cells xs; waiting = waiting; faults = faults }
 
 -- the table that a book's bytes hold
-abbrev pub bookTable : List ℕ → Table
-bookTable book = (read_of book).table
+abbrev pub book_table : List ℕ → Table
+book_table book = (read_of book).table
 
 pub data Case : Type 0 where
   -- a book, the number and the place that reading it gives, and the numbers of rules and cells of its table
@@ -49,12 +49,12 @@ stepped t m (r ∷ rs) = cond (eqb m.number 0) (stepped t (step_of t m.state r) 
 
 abbrev pub Holds : Case → Type 0
 Holds (reads s number place n k) =
-    ((read_of s).number ≡ number) × ((read_of s).place ≡ place) × ((bookTable s).n ≡ n) × ((bookTable s).k ≡ k)
+    ((read_of s).number ≡ number) × ((read_of s).place ≡ place) × ((book_table s).n ≡ n) × ((book_table s).k ≡ k)
 Holds (scales a p q z) = scaled a p q ≡ z
-Holds (steps s a rs b) = stepped (bookTable s) (moved 0 255 a) rs ≡ moved 0 255 b
-Holds (posts s cell value b) = post_of (bookTable s) zeros cell value ≡ moved 0 255 b
-Holds (commutes s i j) = commute (masksOf (bookTable s)) i j ≡ true
-Holds (bounds s set v) = (b : Bound) → BoundSays (bookTable s) set b → (b.number ≡ 0) × (b.bound ≡ v)
+Holds (steps s a rs b) = stepped (book_table s) (moved 0 255 a) rs ≡ moved 0 255 b
+Holds (posts s cell value b) = post_of (book_table s) zeros cell value ≡ moved 0 255 b
+Holds (commutes s i j) = commute (masks_of (book_table s)) i j ≡ true
+Holds (bounds s set v) = (b : Bound) → BoundSays (book_table s) set b → (b.number ≡ 0) × (b.bound ≡ v)
 Holds (prints s text) = (x : List ℕ) → TextOf (read_of s) x → x ≡ letters text
 
 -- a row is the paper's sentence and the case

@@ -10,27 +10,27 @@ use native.Mathlib.Omega.{arith}
 use lib.ListN.{get_or}
 use Rattle.mask.specs.Mask.{has}
 use Rattle.graph.specs.Graph.{Leads}
-use Rattle.table.specs.Table.{Table, goesBefore}
+use Rattle.table.specs.Table.{Table, goes_before}
 use Rattle.table.specs.Check.{Sound}
 use Rattle.table.proofs.SoundLaws.{parts}
 use Rattle.table.proofs.BeforeLaws.{before-iff}
-use Rattle.analysis_weights.specs.Weight.{total, weightOf}
+use Rattle.analysis_weights.specs.Weight.{total, weight_of}
 use Rattle.analysis_weights.proofs.SumsLaws.{total-more}
 use Rattle.analysis_weights.proofs.EquationLaws.{weighs, total-none}
-use Rattle.analysis_pairs.specs.RuleMasks.{mayTrigger, commute, rulesOf, triggers}
+use Rattle.analysis_pairs.specs.RuleMasks.{may_trigger, commute, rules_of, triggers}
 use Rattle.analysis_pairs.proofs.RuleMasksLaws.{commute-sym}
 use Rattle.analysis_masks.specs.AnalysisMasksInner.{Orderly}
 use Rattle.analysis_masks.specs.Cleared.{Faulty, Cleared}
 use Rattle.analysis_masks.proofs.ClearedLaws.{ends-halts}
 use Rattle.analysis_masks.proofs.AlikeLaws.{may-within, triggers-has, triggers-rows}
 use Rattle.analysis_masks.proofs.SidesLaws.{GrownSides, sides}
-use Rattle.analysis.specs.TableMasks.{masksOf}
+use Rattle.analysis.specs.TableMasks.{masks_of}
 use Rattle.analysis.proofs.TableMasksLaws.{masks-orderly}
-use Rattle.analysis.proofs.SetsLaws.{may-trigger, commute-quiet, commute-reads, commute-writes}
+use Rattle.analysis.proofs.SetsLaws.{may_trigger_lem, commute-quiet, commute-reads, commute-writes}
 use Rattle.orders.specs.Finite.{sum}
 use Rattle.orders.specs.System.{Weighs}
 use Rattle.orders.specs.Bodies.{Analysis}
-use Rattle.orders.specs.Actions.{actionBodies}
+use Rattle.orders.specs.Actions.{action_bodies}
 use Rattle.orders.specs.Confluence.{PairsPass}
 use Rattle.orders.specs.Concrete.{machine}
 use Rattle.confluence.specs.Demand.{Precedes32}
@@ -56,7 +56,7 @@ sum_same zero f g h = refl
 sum_same (suc k) f g h = ap₂ ◌+◌ (sum_same k f g (λ s l. h s (le_trans l (omega arith)))) (h k (le_refl (suc k)))
 
 module _ (t : Table) (sound : Sound t) (masks : Precedes32 t) where
-  orderly : Orderly (masksOf t)
+  orderly : Orderly (masks_of t)
   orderly = masks-orderly t sound masks.small
 
   few : t.n ≤ 32
@@ -67,50 +67,50 @@ module _ (t : Table) (sound : Sound t) (masks : Precedes32 t) where
 
   -- "a rule weighs one more than all the rules it may trigger together"
   unfoldable pub weight : ℕ → ℕ
-  weight r = weightOf (triggers (masksOf t)) t.n r
+  weight r = weight_of (triggers (masks_of t)) t.n r
 
-  module _ (ends : (r : ℕ) → Faulty (masksOf t) r → ⊥) where
-    pub weights : Weighs t.n (mayTrigger (masksOf t)) weight
+  module _ (ends : (r : ℕ) → Faulty (masks_of t) r → ⊥) where
+    pub weights : Weighs t.n (may_trigger (masks_of t)) weight
     unfolding weight
     weights r l =
-        let m = masksOf t in
-        let w : ℕ → ℕ = weightOf (triggers m) t.n in
-        let one : sum (λ s. cond (mayTrigger m r s) (w s) 0) 32 ≡ sum (λ s. cond (mayTrigger m r s) (w s) 0) t.n =
-        sum_past t.n 32 (λ s. cond (mayTrigger m r s) (w s) 0) few
+        let m = masks_of t in
+        let w : ℕ → ℕ = weight_of (triggers m) t.n in
+        let one : sum (λ s. cond (may_trigger m r s) (w s) 0) 32 ≡ sum (λ s. cond (may_trigger m r s) (w s) 0) t.n =
+        sum_past t.n 32 (λ s. cond (may_trigger m r s) (w s) 0) few
         (λ s h. ap (λ (b : Bool). cond b (w s) 0) ((may-within m orderly).to r s h)) in
-        let two : total 32 (get_or (triggers m) r 0) w ≡ sum (λ s. cond (mayTrigger m r s) (w s) 0) 32 =
+        let two : total 32 (get_or (triggers m) r 0) w ≡ sum (λ s. cond (may_trigger m r s) (w s) 0) 32 =
         total-sum 32 (get_or (triggers m) r 0) w
-        ∙ sum_same 32 (λ s. cond (has (get_or (triggers m) r 0) s) (w s) 0) (λ s. cond (mayTrigger m r s) (w s) 0)
+        ∙ sum_same 32 (λ s. cond (has (get_or (triggers m) r 0) s) (w s) 0) (λ s. cond (may_trigger m r s) (w s) 0)
         (λ s h. ap (λ (b : Bool). cond b (w s) 0) (triggers-has m orderly r s)) in
         le_of_eq
         (ap (λ (x : ℕ). 1 + x) (sym (two ∙ one))
         ∙ sym (weighs (triggers m) t.n few (triggers-rows m orderly) r l (ends-halts m orderly ends r)))
 
-    abbrev pub analysed : Analysis t.k (actionBodies t.k (actions t sound))
+    abbrev pub analysed : Analysis t.k (action_bodies t.k (actions t sound))
     analysed =
         record {
-          mayTrigger = mayTrigger (masksOf t);
-          commute = commute (masksOf t);
+          may_trigger = may_trigger (masks_of t);
+          commute = commute (masks_of t);
           weight = weight;
-          triggers = λ r s x lr ls lx w i. may-trigger t r s x lr ls (le_trans lx small) w i;
+          triggers = λ r s x lr ls lx w i. may_trigger_lem t r s x lr ls (le_trans lx small) w i;
           weighs = weights;
-          commute-symmetric = λ r s lr ls c. sym (commute-sym (masksOf t) r s) ∙ c;
+          commute_symmetric = λ r s lr ls c. sym (commute-sym (masks_of t) r s) ∙ c;
           commute-quiet = λ r s lr ls ne c. commute-quiet t r s lr ls ne c;
           commute-reads = λ r s x lr ls lx ne c. commute-reads t r s lr ls ne c x (le_trans lx small);
           commute-writes = λ r s x lr ls lx ne c. commute-writes t r s lr ls ne c x (le_trans lx small);
         }
 
   -- "every unordered pair passes"
-  pub pairs-pass : (c : Cleared (masksOf t))
+  pub pairs_pass : (c : Cleared (masks_of t))
       → PairsPass (machine t.k (actions t sound) (runner t sound) (concrete t sound) (analysed c.ends))
-  pairs-pass c i j l lj u =
+  pairs_pass c i j l lj u =
       let li : i < t.n = le_trans l (le_trans (omega arith) lj) in
-      let up : (r s : ℕ) → Leads (masksOf t).precedes r s → So (goesBefore t r s) =
+      let up : (r s : ℕ) → Leads (masks_of t).precedes r s → So (goes_before t r s) =
       λ r s. (before-iff t sound masks.small r s).1 in
-      let down : (r s : ℕ) → So (goesBefore t r s) → Leads (masksOf t).precedes r s =
+      let down : (r s : ℕ) → So (goes_before t r s) → Leads (masks_of t).precedes r s =
       λ r s. (before-iff t sound masks.small r s).0 in
-      let d : GrownSides (rulesOf (masksOf t)) t.n i j =
-      sides (masksOf t) orderly c i j li lj (λ e. omega arith) (λ v. u.0 (up i j v), λ v. u.1 (up j i v)) in
+      let d : GrownSides (rules_of (masks_of t)) t.n i j =
+      sides (masks_of t) orderly c i j li lj (λ e. omega arith) (λ v. u.0 (up i j v), λ v. u.1 (up j i v)) in
       record {
         R₁ = d.one;
         R₂ = d.other;

@@ -13,17 +13,17 @@ use Rattle.machine_spec.specs.State.{Fits}
 use Rattle.machine_spec.specs.Step.{post_of}
 use Rattle.machine_spec.proofs.PostLaws.{post-fits}
 use Rattle.confluence.specs.Demand.{Precedes32, Days, none, more}
-use Rattle.confluence.proofs.DemandLaws.{demand-3, cleared-of, after-fits}
+use Rattle.confluence.proofs.DemandLaws.{demand_3, cleared_of, after-fits}
 
 -- after each posting both machines are in the same state
-pub same-days : (t : Table) (s : State) (r : Report) → Precedes32 t → ReportSays t r → r.number ≡ 0 → r.cleared ≡ true → Fits t s
+pub same_days : (t : Table) (s : State) (r : Report) → Precedes32 t → ReportSays t r → r.number ≡ 0 → r.cleared ≡ true → Fits t s
     → (ps : List (ℕ × ℤ)) (us vs : List State) → Days t s ps us → Days t s ps vs → us ≡ vs
-same-days t s r masks says e c f ps us vs none none = refl
-same-days t s r masks says e c f ps us vs (more {end = a} {p = p} {rs = rs} {ps = rest} {ends = firsts} d x xs)
+same_days t s r masks says e c f ps us vs none none = refl
+same_days t s r masks says e c f ps us vs (more {end = a} {p = p} {rs = rs} {ps = rest} {ends = firsts} d x xs)
     (more {end = b} {rs = os} {ends = seconds} g y ys) =
     let posted = (post_of t s p.0 p.1).state in
     let fits : Fits t posted = post-fits t s p.0 p.1 f in
-    let z : a ≡ b = (demand-3 t posted r masks says e c fits).1 rs os a b x y in
-    let end_fits : Fits t b = subst (Fits t) y.is (after-fits t (cleared-of t r says e c).0 os posted fits) in
+    let z : a ≡ b = (demand_3 t posted r masks says e c fits).1 rs os a b x y in
+    let end_fits : Fits t b = subst (Fits t) y.is (after-fits t (cleared_of t r says e c).0 os posted fits) in
     ap₂ ◌∷◌ z
-    (same-days t b r masks says e c end_fits rest firsts seconds (subst (λ (v : State). Days t v rest firsts) z xs) ys)
+    (same_days t b r masks says e c end_fits rest firsts seconds (subst (λ (v : State). Days t v rest firsts) z xs) ys)

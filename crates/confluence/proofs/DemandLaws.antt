@@ -11,21 +11,21 @@ use native.Mathlib.Decide.{ℕ_discrete}
 use lib.IntN.{ℤ, pos}
 use lib.ListN.{length}
 use lib.Seq.{ext_get_or}
-use Rattle.mask.proofs.SearchLaws.{lt-or-ge}
+use Rattle.mask.proofs.SearchLaws.{lt-or_ge}
 use Rattle.mask.specs.Mask.{has, beyond}
 use Rattle.mask.specs.MaskInner.{lowest}
 use Rattle.mask.proofs.BitsLaws.{has-zero}
 use Rattle.mask.proofs.MaskLaws.{ext_iff, lowest-has}
 use Rattle.table.specs.Table.{Table}
 use Rattle.table.specs.declared.Answer.{Answer}
-use Rattle.table.specs.Check.{checkOf, Sound}
+use Rattle.table.specs.Check.{check_of, Sound}
 use Rattle.table.proofs.SoundLaws.{parts, sound-by}
-use Rattle.analysis_weights.specs.Weight.{weightOf}
+use Rattle.analysis_weights.specs.Weight.{weight_of}
 use Rattle.analysis_pairs.specs.RuleMasks.{triggers}
 use Rattle.analysis_masks.specs.declared.Report.{Report}
 use Rattle.analysis_masks.specs.Cleared.{Faulty, Cleared}
 use Rattle.analysis_masks.specs.Report.{Reported}
-use Rattle.analysis.specs.TableMasks.{masksOf}
+use Rattle.analysis.specs.TableMasks.{masks_of}
 use Rattle.analysis.specs.Says.{ReportSays}
 use Rattle.rule_sums.specs.Sums.{at}
 use Rattle.machine_spec.specs.declared.State.{State}
@@ -39,13 +39,13 @@ use Rattle.machine_spec.proofs.StepLaws.{Stepping, step-done, step_fits}
 use Rattle.orders.specs.Finite.{sum}
 use Rattle.orders.specs.Runner.{Eligible, exec, Runs, Ended}
 use Rattle.orders.specs.Runner as orders
-use Rattle.orders.specs.System.{stepBound}
+use Rattle.orders.specs.System.{step_bound}
 use Rattle.orders.specs.View.{viewed-short}
-use Rattle.orders.specs.Kept.{waitingBit}
+use Rattle.orders.specs.Kept.{waiting_bit}
 use Rattle.orders.specs.Concrete.{machine, view, viewed, Promised, cleared⇒promised}
-use Rattle.confluence.specs.Demand.{after, Permitted, Still, Precedes32, boundOf, EveryOrder, OneEnd}
+use Rattle.confluence.specs.Demand.{after, Permitted, Still, Precedes32, bound_of, EveryOrder, OneEnd}
 use Rattle.confluence.proofs.MachineLaws.{runner, actions, concrete, steps-done}
-use Rattle.confluence.proofs.AnalysedLaws.{weight, analysed, pairs-pass, total-sum, sum_past}
+use Rattle.confluence.proofs.AnalysedLaws.{weight, analysed, pairs_pass, total-sum, sum_past}
 
 -- ---- two states that fit are told apart by their cells below k and their marks below n
 
@@ -55,7 +55,7 @@ fits-cells t sd s u f g h =
     ext_get_or (pos 0) s.cells u.cells (f.long ∙ sym g.long)
     (λ x l.
     let m : x < 32 = subst (λ (k : ℕ). x < k) f.long l in
-    ⊎_elim (h x) (λ past. fits-rest t s f x m past ∙ sym (fits-rest t u g x m past)) (lt-or-ge x t.k))
+    ⊎_elim (h x) (λ past. fits-rest t s f x m past ∙ sym (fits-rest t u g x m past)) (lt-or_ge x t.k))
 
 fits-marks : (t : Table) (s u : State) → Fits t s → Fits t u
     → ((x : ℕ) → x < t.n → has s.faults x ≡ has u.faults x) → s.faults ≡ u.faults
@@ -119,10 +119,10 @@ module _ (t : Table) (sd : Sound t) where
 
   -- ---- the sum of the weights of what waits is the step bound
   module _ (masks : Precedes32 t) where
-    sum_is : (s : State) → Fits t s → sum (λ x. cond (waits s x) (weight t sd masks x) 0) t.n ≡ boundOf t s.waiting
+    sum_is : (s : State) → Fits t s → sum (λ x. cond (waits s x) (weight t sd masks x) 0) t.n ≡ bound_of t s.waiting
     unfolding weight
     sum_is s f =
-        let w : ℕ → ℕ = weightOf (triggers (masksOf t)) t.n in
+        let w : ℕ → ℕ = weight_of (triggers (masks_of t)) t.n in
         sym
         (total-sum 32 s.waiting w
         ∙ sum_past t.n 32 (λ x. cond (waits s x) (w x) 0) (parts t sd).sizes.rules
@@ -133,9 +133,9 @@ module _ (t : Table) (sd : Sound t) where
         past x l false q = q
 
     -- ---- a book that ends
-    module _ (ends : (r : ℕ) → Faulty (masksOf t) r → ⊥) (s : State) (f : Fits t s) where
-      short : (rs : List ℕ) → Permitted t s rs → length rs ≤ boundOf t s.waiting
-      unfolding waitingBit view stepBound
+    module _ (ends : (r : ℕ) → Faulty (masks_of t) r → ⊥) (s : State) (f : Fits t s) where
+      short : (rs : List ℕ) → Permitted t s rs → length rs ≤ bound_of t s.waiting
+      unfolding waiting_bit view step_bound
       short rs p =
           le_trans
           (viewed-short (runner t sd) (machine t.k (actions t sd) (runner t sd) (concrete t sd) (analysed t sd masks ends)) (Fits t)
@@ -143,8 +143,8 @@ module _ (t : Table) (sd : Sound t) where
           (viewed t.k (actions t sd) (runner t sd) (concrete t sd) (analysed t sd masks ends)) s f rs (permitted-runs rs s p))
           (le_of_eq (sum_is s f))
 
-      pub every-order : EveryOrder t s
-      every-order =
+      pub every_order : EveryOrder t s
+      every_order =
           record {
             short = short;
             bound = λ b says.
@@ -158,10 +158,10 @@ module _ (t : Table) (sd : Sound t) where
           }
 
     -- ---- a cleared book
-    module _ (c : Cleared (masksOf t)) (s : State) (f : Fits t s) where
+    module _ (c : Cleared (masks_of t)) (s : State) (f : Fits t s) where
       promised : Promised t.k (actions t sd) (runner t sd) (concrete t sd) (analysed t sd masks c.ends) s
       promised =
-          cleared⇒promised t.k (actions t sd) (runner t sd) (concrete t sd) (analysed t sd masks c.ends) (pairs-pass t sd masks c) s f
+          cleared⇒promised t.k (actions t sd) (runner t sd) (concrete t sd) (analysed t sd masks c.ends) (pairs_pass t sd masks c) s f
 
       pub one_end : OneEnd t s
       one_end rs us a b x y =
@@ -183,28 +183,28 @@ module _ (t : Table) (sd : Sound t) where
 -- ---- in terms of the calls: the report is done and says cleared
 
 -- a report that is done is of a sound table
-pub sound-of : (t : Table) (r : Report) → ReportSays t r → r.number ≡ 0 → Sound t × Reported (masksOf t) r
-sound-of t r says e = go (ℕ_discrete (checkOf t).number 0)
+pub sound_of : (t : Table) (r : Report) → ReportSays t r → r.number ≡ 0 → Sound t × Reported (masks_of t) r
+sound_of t r says e = go (ℕ_discrete (check_of t).number 0)
   where
-    go : Dec ((checkOf t).number ≡ 0) → Sound t × Reported (masksOf t) r
+    go : Dec ((check_of t).number ≡ 0) → Sound t × Reported (masks_of t) r
     go (yes z) = (sound-by t z, says.done z)
     go (no ne) = absurd (ne (sym (ap (λ (x : Report). x.number) (says.refused ne)) ∙ e))
 
 -- and one that says cleared, of a cleared one
-pub cleared-of : (t : Table) (r : Report) → ReportSays t r → r.number ≡ 0 → r.cleared ≡ true → Sound t × Cleared (masksOf t)
-cleared-of t r says e c = let p = sound-of t r says e in (p.0, p.1.cleared.0 c)
+pub cleared_of : (t : Table) (r : Report) → ReportSays t r → r.number ≡ 0 → r.cleared ≡ true → Sound t × Cleared (masks_of t)
+cleared_of t r says e c = let p = sound_of t r says e in (p.0, p.1.cleared.0 c)
 
 -- demand 3
-pub demand-3 : (t : Table) (s : State) (r : Report) → Precedes32 t → ReportSays t r → r.number ≡ 0 → r.cleared ≡ true → Fits t s
+pub demand_3 : (t : Table) (s : State) (r : Report) → Precedes32 t → ReportSays t r → r.number ≡ 0 → r.cleared ≡ true → Fits t s
     → EveryOrder t s × OneEnd t s
-demand-3 t s r masks says e c f =
-    let p = cleared-of t r says e c in
-    (every-order t p.0 masks p.1.ends s f, one_end t p.0 masks p.1 s f)
+demand_3 t s r masks says e c f =
+    let p = cleared_of t r says e c in
+    (every_order t p.0 masks p.1.ends s f, one_end t p.0 masks p.1 s f)
 
 -- a book that only ends, with no rule at fault: its orders are short and go on
-pub ends-3 : (t : Table) (s : State) (r : Report) → Precedes32 t → ReportSays t r → r.number ≡ 0 → r.faulty ≡ 0 → Fits t s
+pub ends_3 : (t : Table) (s : State) (r : Report) → Precedes32 t → ReportSays t r → r.number ≡ 0 → r.faulty ≡ 0 → Fits t s
     → EveryOrder t s
-ends-3 t s r masks says e z f =
-    let p = sound-of t r says e in
-    every-order t p.0 masks
+ends_3 t s r masks says e z f =
+    let p = sound_of t r says e in
+    every_order t p.0 masks
     (λ x h. false≢true (sym (ap (λ (m : ℕ). has m x) z ∙ has-zero x) ∙ (p.1.faulty x).1 h)) s f

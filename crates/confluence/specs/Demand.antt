@@ -3,11 +3,11 @@
 -- marks." The field calls it confluence: every order terminates, and all have one normal form. The theorems are in proofs/DemandLaws,
 -- OwnOrderLaws and DaysLaws.
 use Rattle.std.specs.Prelude.{◌≡◌, List, [], ◌∷◌, ◌++◌, ℕ, ◌≤◌, ◌^◌, ◌<◌, ℤ, length}
-use Rattle.table.specs.Table.{Table, ruleAt}
-use Rattle.analysis_weights.specs.Weight.{total, weightOf}
+use Rattle.table.specs.Table.{Table, rule_at}
+use Rattle.analysis_weights.specs.Weight.{total, weight_of}
 use Rattle.analysis_pairs.specs.RuleMasks.{triggers}
 use Rattle.analysis_masks.specs.declared.Bound.{Bound}
-use Rattle.analysis.specs.TableMasks.{masksOf}
+use Rattle.analysis.specs.TableMasks.{masks_of}
 use Rattle.analysis.specs.Says.{BoundSays}
 use Rattle.machine_spec.specs.declared.State.{State}
 use Rattle.machine_spec.specs.declared.Ran.{Ran}
@@ -15,7 +15,7 @@ use Rattle.machine_spec.specs.Step.{step_of, post_of}
 
 -- the precedes masks have 32 bits, as in every table that memory holds
 pub record Precedes32 (t : Table) : Type 0 where
-  pub small : (i : ℕ) → i < t.n → (ruleAt t i).precedes < 2 ^ 32
+  pub small : (i : ℕ) → i < t.n → (rule_at t i).precedes < 2 ^ 32
 
 -- the state after the step calls of a list of rule numbers, one after the other
 abbrev pub after : Table → State → List ℕ → State
@@ -32,14 +32,14 @@ abbrev pub Still : State → Type 0
 Still s = s.waiting ≡ 0
 
 -- "The step bound of a set is the sum of its weights."
-abbrev pub boundOf : Table → ℕ → ℕ
-boundOf t set = total 32 set (weightOf (triggers (masksOf t)) t.n)
+abbrev pub bound_of : Table → ℕ → ℕ
+bound_of t set = total 32 set (weight_of (triggers (masks_of t)) t.n)
 
 -- what holds of every permitted order of a book that ends (terminating)
 pub record EveryOrder (t : Table) (s : State) : Type 0 where
   -- it is at most as long as the step bound of the waiting set, and the call `bound` gives that bound with number 0
-  pub short : (rs : List ℕ) → Permitted t s rs → length rs ≤ boundOf t s.waiting
-  pub bound : (b : Bound) → BoundSays t s.waiting b → (b.number ≡ 0) × (b.bound ≡ boundOf t s.waiting)
+  pub short : (rs : List ℕ) → Permitted t s rs → length rs ≤ bound_of t s.waiting
+  pub bound : (b : Bound) → BoundSays t s.waiting b → (b.number ≡ 0) × (b.bound ≡ bound_of t s.waiting)
   -- if something waits after it, some rule can be stepped next
   pub goes_on : (rs : List ℕ) → Permitted t s rs → (Still (after t s rs) → ⊥) → (r : ℕ) × Permitted t s (rs ++ (r ∷ []))
 
@@ -56,7 +56,7 @@ OneEnd t s = (rs us : List ℕ) (a b : State) → EndsIn t s rs a → EndsIn t s
 -- what a run of the machine's own order is
 pub record OwnOrder (t : Table) (s : State) (x : Ran) : Type 0 where
   pub number : x.number ≡ 0
-  pub steps : x.steps ≤ boundOf t s.waiting
+  pub steps : x.steps ≤ bound_of t s.waiting
   pub still : Still x.state
   pub end : (rs : List ℕ) (a : State) → EndsIn t s rs a → x.state ≡ a
 

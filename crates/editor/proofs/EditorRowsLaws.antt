@@ -9,7 +9,7 @@ use lib.ListN.{get_or}
 use lib.Pow.{pow_pos}
 use borrow.Author.Tests.{ltb-false}
 use Rattle.mask.proofs.FirstLaws.{first-passed}
-use Rattle.mask.proofs.SearchLaws.{lt-or-ge}
+use Rattle.mask.proofs.SearchLaws.{lt-or_ge}
 use Rattle.graph.specs.Graph.{cyclic}
 use Rattle.graph.specs.GraphInner.{Rows}
 use Rattle.table.specs.declared.Answer.{Answer}
@@ -19,27 +19,27 @@ use Rattle.analysis_masks.specs.declared.Report.{Report}
 use Rattle.analysis_masks.specs.AnalysisMasksInner.{Orderly}
 use Rattle.analysis_masks.proofs.ReportLaws.{unique}
 use Rattle.editor.specs.EditorInner.{RestZero}
-use Rattle.editor_check.specs.EditorCheckInner.{RowChecked, onlyPrecedes}
-use Rattle.editor_check.specs.RowNumbers.{firstBeyond, rowAnswers, checkRows}
+use Rattle.editor_check.specs.EditorCheckInner.{RowChecked, only_precedes}
+use Rattle.editor_check.specs.RowNumbers.{first_beyond, row_answers, check_rows}
 use Rattle.editor.specs.Rows.{RowsSay}
 
 -- the numbers ask for the precedes masks alone
-pub checked-in : (m : Masks) {a : Answer} → RowChecked (onlyPrecedes m.n m.precedes) a → RowChecked m a
-unfolding checkRows firstBeyond
-checked-in m h = record { is = h.is; named = h.named }
+pub checked_in : (m : Masks) {a : Answer} → RowChecked (only_precedes m.n m.precedes) a → RowChecked m a
+unfolding check_rows first_beyond
+checked_in m h = record { is = h.is; named = h.named }
 
 -- no number applies
 pub record NoNumber (m : Masks) : Type 0 where
   pub few : m.n ≤ 32
-  pub inside : m.n ≤ firstBeyond m
+  pub inside : m.n ≤ first_beyond m
   pub straight : cyclic m.n m.precedes ≡ false
 
-pub no_number : (m : Masks) → (checkRows m).number ≡ 0 → NoNumber m
-unfolding checkRows
+pub no_number : (m : Masks) → (check_rows m).number ≡ 0 → NoNumber m
+unfolding check_rows
 no_number m e =
-    let p = first-passed (λ (a : Answer). a.number ≡ 0) done (rowAnswers m)
+    let p = first-passed (λ (a : Answer). a.number ≡ 0) done (row_answers m)
     (λ _ z. omega (arith, z), (λ _ z. omega (arith, z), (λ _ z. omega (arith, z), tt))) e in
-    record { few = ltb-false 32 m.n p.0; inside = ltb-false (firstBeyond m) m.n p.1.0; straight = p.1.1.0 }
+    record { few = ltb-false 32 m.n p.0; inside = ltb-false (first_beyond m) m.n p.1.0; straight = p.1.1.0 }
 
 pub orderly : (m : Masks) → RestZero m → NoNumber m → ((i : ℕ) → i < m.n → get_or m.precedes i 0 < 2 ^ m.n) → Orderly m
 orderly m p c named =
@@ -56,12 +56,12 @@ orderly m p c named =
     rows r =
         ⊎_elim (named r)
         (λ l. subst (λ (x : ℕ). x < 2 ^ m.n) (sym (p.precedes c.few r l)) (pow_pos m.n))
-        (lt-or-ge r m.n)
+        (lt-or_ge r m.n)
 
 -- what is promised determines the report
 pub rows-unique : (m : Masks) (r s : Report) → RowsSay m r → RowsSay m s → r ≡ s
-rows-unique m r s p q = go (ℕ_discrete (checkRows m).number 0)
+rows-unique m r s p q = go (ℕ_discrete (check_rows m).number 0)
   where
-    go : Dec ((checkRows m).number ≡ 0) → r ≡ s
+    go : Dec ((check_rows m).number ≡ 0) → r ≡ s
     go (yes e) = unique m r s (p.done e) (q.done e)
     go (no ne) = p.refused ne ∙ sym (q.refused ne)

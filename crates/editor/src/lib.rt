@@ -1,9 +1,9 @@
 // The editor's row: a lent slice of four-mask records is copied into arrays, checked, and analysed as a table's masks are.
 ghost use Rattle.std.specs.Prelude.{◌≡◌};
-ghost use Rattle.analysis_pairs.specs.AnalysisPairsInner.{masksIn};
-ghost use Rattle.editor.specs.Rows.{rowMasks, RowsSay};
-ghost use Rattle.editor.specs.EditorInner.{RestZero, no_rows, withRow};
-ghost use Rattle.editor.specs.RowsIn.{rowsIn};
+ghost use Rattle.analysis_pairs.specs.AnalysisPairsInner.{masks_in};
+ghost use Rattle.editor.specs.Rows.{row_masks, RowsSay};
+ghost use Rattle.editor.specs.EditorInner.{RestZero, no_rows, with_row};
+ghost use Rattle.editor.specs.RowsIn.{rows_in};
 
 use analysis_masks::Report;
 use analysis_pairs::Masks;
@@ -33,7 +33,7 @@ fn none() -> Masks
 
 // Record i put into the arrays; 33 records stand for all that are too many.
 fn with_row(m: Masks, i: usize, r: Record) -> Masks
-    ensures { result ≡ withRow m i r }
+    ensures { result ≡ with_row m i r }
 {
     let mut o = m;
     if i < 32 {
@@ -56,8 +56,8 @@ fn judged(
     writes: &[u32; 32],
     precedes: &[u32; 32],
 ) -> Report
-    requires { RestZero (masksIn n watch.now reads.now writes.now precedes.now) }
-    ensures { RowsSay (masksIn n watch.now reads.now writes.now precedes.now) result }
+    requires { RestZero (masks_in n watch.now reads.now writes.now precedes.now) }
+    ensures { RowsSay (masks_in n watch.now reads.now writes.now precedes.now) result }
 {
     let a = editor_check::check(n, precedes);
     if a.number != 0 {
@@ -82,7 +82,7 @@ fn analysed(m: Masks) -> Report
 
 // The report of a row of records, of any length.
 pub fn report(rows: &[Record]) -> Report
-    ensures { RowsSay (rowMasks rows.now) result }
+    ensures { RowsSay (row_masks rows.now) result }
 {
     let mut m = none();
     let mut i = 0;
@@ -95,7 +95,7 @@ pub fn report(rows: &[Record]) -> Report
 
 // The report of a row that crosses as bytes, 16 for each record.
 pub fn report_of_bytes(s: &[u8]) -> Report
-    ensures { RowsSay (rowMasks (rowsIn s.now)) result }
+    ensures { RowsSay (row_masks (rows_in s.now)) result }
 {
     let n = s.len() / 16;
     if 32 < n {

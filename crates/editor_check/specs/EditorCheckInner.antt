@@ -2,19 +2,19 @@
 use Rattle.std.specs.Prelude.{◌≡◌, List, [], ℕ, ◌^◌, ◌<◌, get_or}
 use Rattle.table.specs.declared.Answer.{Answer}
 use Rattle.analysis_pairs.specs.declared.Masks.{Masks}
-use Rattle.analysis_pairs.specs.AnalysisPairsInner.{masksIn}
-use Rattle.editor_check.specs.RowNumbers.{firstBeyond, checkRows}
+use Rattle.analysis_pairs.specs.AnalysisPairsInner.{masks_in}
+use Rattle.editor_check.specs.RowNumbers.{first_beyond, check_rows}
 
 -- the masks of the records before it name records of the row only
 pub record FirstBeyond (m : Masks) (r : ℕ) : Type 0 where
-  pub is : r ≡ firstBeyond m
+  pub is : r ≡ first_beyond m
   pub named : (i : ℕ) → i < r → get_or m.precedes i 0 < 2 ^ m.n
 
 -- the first number that applies, and where none does, every mask names records of the row only
 pub record RowChecked (m : Masks) (a : Answer) : Type 0 where
-  pub is : a ≡ checkRows m
+  pub is : a ≡ check_rows m
   pub named : a.number ≡ 0 → (i : ℕ) → i < m.n → get_or m.precedes i 0 < 2 ^ m.n
 
 -- a row of which no more is known than the precedes masks: all that the numbers ask for
-abbrev pub onlyPrecedes : ℕ → List ℕ → Masks
-onlyPrecedes n precedes = masksIn n [] [] [] precedes
+abbrev pub only_precedes : ℕ → List ℕ → Masks
+only_precedes n precedes = masks_in n [] [] [] precedes

@@ -9,15 +9,15 @@ use Rattle.table.specs.Check.{answer, done}
 use Rattle.analysis_pairs.specs.declared.Masks.{Masks}
 
 -- 6: "a precedes bit beyond the row": the first such record, or the number of records
-unfoldable pub firstBeyond : Masks → ℕ
-firstBeyond m = least m.n (λ i. beyond (get_or m.precedes i 0) m.n)
+unfoldable pub first_beyond : Masks → ℕ
+first_beyond m = least m.n (λ i. beyond (get_or m.precedes i 0) m.n)
 
 -- "there only 3 (over 32 records), 6 (a precedes bit beyond the row) and 10 occur"
-abbrev pub rowAnswers : Masks → List (Bool × Answer)
-rowAnswers m =
+abbrev pub row_answers : Masks → List (Bool × Answer)
+row_answers m =
     (ltb 32 m.n, answer 3 255)
-    ∷ (ltb (firstBeyond m) m.n, answer 6 (firstBeyond m))
+    ∷ (ltb (first_beyond m) m.n, answer 6 (first_beyond m))
     ∷ (cyclic m.n m.precedes, answer 10 255) ∷ []
 
-unfoldable pub checkRows : Masks → Answer
-checkRows m = first_of done (rowAnswers m)
+unfoldable pub check_rows : Masks → Answer
+check_rows m = first_of done (row_answers m)

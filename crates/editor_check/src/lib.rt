@@ -1,13 +1,13 @@
 // The numbers 3, 6 and 10 of a row of n records: they ask for its precedes masks alone.
 ghost use Rattle.std.specs.Prelude.{◌≤◌};
-ghost use Rattle.editor_check.specs.EditorCheckInner.{onlyPrecedes, FirstBeyond, RowChecked};
+ghost use Rattle.editor_check.specs.EditorCheckInner.{only_precedes, FirstBeyond, RowChecked};
 
 use table::Answer;
 
 // 6: the first record with a precedes bit beyond the row, or the number of records.
 fn first_beyond(n: usize, precedes: &[u32; 32]) -> usize
     requires { n ≤ 32 }
-    ensures { FirstBeyond (onlyPrecedes n precedes.now) result }
+    ensures { FirstBeyond (only_precedes n precedes.now) result }
 {
     for i in 0..n {
         if mask::beyond(mask::bits(precedes[i]), n) {
@@ -19,7 +19,7 @@ fn first_beyond(n: usize, precedes: &[u32; 32]) -> usize
 
 // The first number that applies, with its place.
 pub fn check(n: usize, precedes: &[u32; 32]) -> Answer
-    ensures { RowChecked (onlyPrecedes n precedes.now) result }
+    ensures { RowChecked (only_precedes n precedes.now) result }
 {
     if 32 < n {
         return Answer {

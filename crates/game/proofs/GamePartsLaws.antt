@@ -12,7 +12,7 @@ use denote.Ref.{Bor, ShrRef}
 use denote.Struct.Laws as LL
 use Rattle.table.specs.declared.Answer.{Answer}
 use Rattle.table.specs.Check.{answer}
-use Rattle.table.specs.Memory.{tableFrom}
+use Rattle.table.specs.Memory.{table_from}
 use Rattle.table.specs.Table.{Table}
 use Rattle.machine_spec.specs.declared.State.{State}
 use Rattle.machine_spec.specs.declared.Moved.{Moved}
@@ -37,7 +37,7 @@ abbrev pub Shown : Lft → Bor (List ℕ) → Fml
 Shown κ t = (TableRef κ).own_val t (place t ∷ [])
 
 abbrev pub book : Bor (List ℕ) → Table
-book t = tableFrom t.now
+book t = table_from t.now
 
 -- machine values: of a state, of an answer
 abbrev pub mach : State → Val

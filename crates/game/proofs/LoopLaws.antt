@@ -5,14 +5,14 @@ use Prim.Native.Nat.{ℕ, suc, ◌-◌, ◌≤◌, ◌<◌}
 use native.Mathlib.Decide.{ℕ_discrete}
 use native.Mathlib.Omega.{arith}
 use borrow.Author.Tests.{ne_eqb}
-use Rattle.rule.specs.Numbers.{notZero}
+use Rattle.rule.specs.Numbers.{not_zero}
 use Rattle.table.specs.Table.{Table}
 use Rattle.table.specs.declared.Answer.{Answer}
-use Rattle.table.specs.Check.{checkOf, Sound}
+use Rattle.table.specs.Check.{check_of, Sound}
 use Rattle.machine_spec.specs.declared.State.{State}
 use Rattle.machine_spec.specs.declared.Ran.{Ran}
 use Rattle.machine_spec.specs.declared.Moved.{Moved}
-use Rattle.machine_spec.specs.State.{stateBad, Fits, lowestOf}
+use Rattle.machine_spec.specs.State.{state_bad, Fits, lowest_of}
 use Rattle.machine_spec.specs.Step.{step_of}
 use Rattle.machine_spec.specs.Run.{ran, later, runs, run_of}
 use Rattle.machine_spec.proofs.EffectLaws.{effect-fits}
@@ -24,12 +24,12 @@ use Rattle.game.specs.GameInner.{Due}
 -- a run as its two tests choose it
 abbrev chosen : Table → State → Bool → Bool → ℕ → Ran
 chosen t s refused bad n =
-    cond refused (ran (checkOf t).number (checkOf t).place s 0) (cond bad (ran 11 255 s 0) (runs t s n))
+    cond refused (ran (check_of t).number (check_of t).place s 0) (cond bad (ran 11 255 s 0) (runs t s n))
 
 -- a run with budget 0 gives back its state in 0 steps
 pub stands : (t : Table) (s : State) → run_of t s 0 ≡ ran (run_of t s 0).number (run_of t s 0).place s 0
 unfolding run_of runs
-stands t s = pick (notZero (checkOf t).number) (stateBad t s)
+stands t s = pick (not_zero (check_of t).number) (state_bad t s)
   where
     pick : (a b : Bool) → chosen t s a b 0 ≡ ran (chosen t s a b 0).number (chosen t s a b 0).place s 0
     pick true b = refl
@@ -37,14 +37,14 @@ stands t s = pick (notZero (checkOf t).number) (stateBad t s)
     pick false false = refl
 
 -- a refused table's run takes no step
-pub refused_over : (t : Table) (s : State) (left : ℕ) → ((checkOf t).number ≡ 0 → ⊥) → run_of t s left ≡ run_of t s 0
+pub refused_over : (t : Table) (s : State) (left : ℕ) → ((check_of t).number ≡ 0 → ⊥) → run_of t s left ≡ run_of t s 0
 unfolding run_of
-refused_over t s left ne = rw (ne_eqb (checkOf t).number 0 ne)
+refused_over t s left ne = rw (ne_eqb (check_of t).number 0 ne)
 
 -- where nothing is spent, the budget makes no difference
 pub over_by : (t : Table) (s : State) (left : ℕ) → ((run_of t s 0).number ≡ 15 → ⊥) → run_of t s left ≡ run_of t s 0
 unfolding run_of
-over_by t s left ne = pick (notZero (checkOf t).number) (stateBad t s) ne
+over_by t s left ne = pick (not_zero (check_of t).number) (state_bad t s) ne
   where
     still : ((runs t s 0).number ≡ 15 → ⊥) → Dec (s.waiting ≡ 0) → runs t s left ≡ runs t s 0
     still f (yes e) = runs_none t s left e ∙ sym (runs_none t s 0 e)
@@ -57,14 +57,14 @@ over_by t s left ne = pick (notZero (checkOf t).number) (stateBad t s) ne
 
 -- where the budget 0 is spent on a sound table, the state fits and rules wait
 pub record Waits (t : Table) (s : State) : Type 0 where
-  pub good : stateBad t s ≡ false
+  pub good : state_bad t s ≡ false
   pub some : s.waiting ≡ 0 → ⊥
 
 pub spent-waits : (t : Table) (s : State) → Sound t → (run_of t s 0).number ≡ 15 → Waits t s
 unfolding run_of
-spent-waits t s sd e = pick (stateBad t s) refl (rw (ap (λ (a : Answer). a.number) sd.checked) at e)
+spent-waits t s sd e = pick (state_bad t s) refl (rw (ap (λ (a : Answer). a.number) sd.checked) at e)
   where
-    pick : (b : Bool) → stateBad t s ≡ b → (cond b (ran 11 255 s 0) (runs t s 0)).number ≡ 15 → Waits t s
+    pick : (b : Bool) → state_bad t s ≡ b → (cond b (ran 11 255 s 0) (runs t s 0)).number ≡ 15 → Waits t s
     pick true q z = absurd (omega arith)
     pick false q z =
         record {
@@ -76,16 +76,16 @@ spent-waits t s sd e = pick (stateBad t s) refl (rw (ap (λ (a : Answer). a.numb
 
 -- the lowest eligible rule is stepped
 pub more_by : (t : Table) (s : State) (left : ℕ) → Sound t → Fits t s → (s.waiting ≡ 0 → ⊥) → 0 < left
-    → run_of t s left ≡ later 1 (run_of t (step_of t s (lowestOf t s)).state (left - 1))
+    → run_of t s left ≡ later 1 (run_of t (step_of t s (lowest_of t s)).state (left - 1))
 more_by t s left sd h ne l =
     let low = lowest-below t s sd h ne in
-    let e : (step_of t s (lowestOf t s)).state ≡ next t s =
-    ap (λ (m : Moved). m.state) (step_is t s (lowestOf t s) sd h low (lowest-eligible t s sd h ne).1) in
+    let e : (step_of t s (lowest_of t s)).state ≡ next t s =
+    ap (λ (m : Moved). m.state) (step_is t s (lowest_of t s) sd h low (lowest-eligible t s sd h ne).1) in
     let one : left ≡ suc (left - 1) = omega arith in
     run_is t s left sd h
     ∙ ap (runs t s) one
     ∙ runs-more t s (left - 1) ne
-    ∙ ap (later 1) (sym (run_is t (next t s) (left - 1) sd (effect-fits t s (lowestOf t s) sd h low)))
+    ∙ ap (later 1) (sym (run_is t (next t s) (left - 1) sd (effect-fits t s (lowest_of t s) sd h low)))
     ∙ ap (λ (u : State). later 1 (run_of t u (left - 1))) (sym e)
 
 -- ---- the loop

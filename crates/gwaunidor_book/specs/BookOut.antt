@@ -3,5 +3,5 @@ use Rattle.std.specs.Prelude.{ℕ}
 use Rattle.book_write.specs.declared.Written.{Written}
 use Rattle.layout_code.specs.Code.{code_of}
 
-abbrev pub sizeOut : Written → ℕ × ℕ
-sizeOut w = (code_of w.number w.place, w.length)
+abbrev pub size_out : Written → ℕ × ℕ
+size_out w = (code_of w.number w.place, w.length)

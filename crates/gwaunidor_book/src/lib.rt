@@ -1,16 +1,16 @@
 // Books and tables at the border: what the calls for C and Rust do.
 ghost use Rattle.std.specs.Prelude.{◌≡◌};
-ghost use Rattle.table.specs.Check.{checkOf};
-ghost use Rattle.table.specs.Memory.{tableFrom, tableBytes};
+ghost use Rattle.table.specs.Check.{check_of};
+ghost use Rattle.table.specs.Memory.{table_from, table_bytes};
 ghost use Rattle.book_judge.specs.Read.{read_of};
-ghost use Rattle.book_write.specs.Write.{writeOf, size_of};
+ghost use Rattle.book_write.specs.Write.{write_of, size_of};
 ghost use Rattle.layout_code.specs.Code.{code_of};
-ghost use Rattle.gwaunidor_book.specs.BookOut.{sizeOut};
+ghost use Rattle.gwaunidor_book.specs.BookOut.{size_out};
 
 // Reads a book into a table.
 pub fn read(book: &[u8], table: &mut [u8; 9092]) -> u32
     ensures value { result ≡ code_of (read_of book.now).number (read_of book.now).place }
-    ensures table_after { table.new ≡ tableBytes (read_of book.now).table }
+    ensures table_after { table.new ≡ table_bytes (read_of book.now).table }
 {
     let read = book_read::read(book, table);
     layout_code::code(read.number, read.place)
@@ -18,7 +18,7 @@ pub fn read(book: &[u8], table: &mut [u8; 9092]) -> u32
 
 // The checks that every call on a table makes first.
 pub fn check(table: &[u8; 9092]) -> u32
-    ensures { result ≡ code_of (checkOf (tableFrom table.now)).number (checkOf (tableFrom table.now)).place }
+    ensures { result ≡ code_of (check_of (table_from table.now)).number (check_of (table_from table.now)).place }
 {
     let a = table::check(table);
     layout_code::code(a.number, a.place)
@@ -26,8 +26,8 @@ pub fn check(table: &[u8; 9092]) -> u32
 
 // Writes a table as a book.
 pub fn write(table: &[u8; 9092], out: &mut [u8], written: &mut u32) -> u32
-    ensures written_after { (result, written.new) ≡ sizeOut (writeOf (tableFrom table.now) out.old).0 }
-    ensures out_after { out.new ≡ (writeOf (tableFrom table.now) out.old).1 }
+    ensures written_after { (result, written.new) ≡ size_out (write_of (table_from table.now) out.old).0 }
+    ensures out_after { out.new ≡ (write_of (table_from table.now) out.old).1 }
 {
     let w = book_write::write(table, out);
     *written = w.length as u32;
@@ -36,7 +36,7 @@ pub fn write(table: &[u8; 9092], out: &mut [u8], written: &mut u32) -> u32
 
 // How long a table's book is.
 pub fn size(table: &[u8; 9092], size: &mut u32) -> u32
-    ensures { (result, size.new) ≡ sizeOut (size_of (tableFrom table.now)) }
+    ensures { (result, size.new) ≡ size_out (size_of (table_from table.now)) }
 {
     let sized = book_write::size(table);
     *size = sized.length as u32;

@@ -5,7 +5,7 @@ use mathlib.Core.List.{List}
 use Prim.Native.Nat.{ℕ}
 use lib.IntN.{ℤ}
 use lib.ListN.{length, replicate}
-use Rattle.bytes.specs.Bytes.{u16Bytes, u32Bytes, u64Bytes, i64Bytes}
+use Rattle.bytes.specs.Bytes.{u16_bytes, u32_bytes, u64_bytes, i64_bytes}
 use Rattle.bytes.specs.Joined.{joined}
 use Rattle.bytes.specs.EachByte.{Bytes}
 use Rattle.table.specs.Table.{Table}
@@ -13,27 +13,27 @@ use Rattle.machine_spec.specs.State.{zeros}
 use Rattle.machine_spec.specs.Step.{step_of, post_of, fresh_of}
 use Rattle.machine_spec.specs.Run.{run_of}
 use Rattle.machine_spec.proofs.KeptLaws.{step_kept, post-kept, fresh_kept, run-kept}
-use Rattle.layout_state.specs.States.{stateFrom, cellsBytes, stateBytes}
+use Rattle.layout_state.specs.States.{state_from, cells_bytes, state_bytes}
 use Rattle.layout_state.proofs.StatesLaws.{state-written}
 
 module _ (t : Table) (b : List ℕ) (small : Bytes b) (size : length b ≡ 264) where
-  pub step-untouched : (r : ℕ) → ((step_of t (stateFrom b) r).number ≡ 0 → ⊥) → stateBytes (step_of t (stateFrom b) r).state ≡ b
-  step-untouched r h = ap stateBytes (step_kept t (stateFrom b) r h) ∙ state-written b small size
+  pub step-untouched : (r : ℕ) → ((step_of t (state_from b) r).number ≡ 0 → ⊥) → state_bytes (step_of t (state_from b) r).state ≡ b
+  step-untouched r h = ap state_bytes (step_kept t (state_from b) r h) ∙ state-written b small size
 
-  pub post-untouched : (cell : ℕ) (value : ℤ) → ((post_of t (stateFrom b) cell value).number ≡ 0 → ⊥)
-      → stateBytes (post_of t (stateFrom b) cell value).state ≡ b
-  post-untouched cell value h = ap stateBytes (post-kept t (stateFrom b) cell value h) ∙ state-written b small size
+  pub post-untouched : (cell : ℕ) (value : ℤ) → ((post_of t (state_from b) cell value).number ≡ 0 → ⊥)
+      → state_bytes (post_of t (state_from b) cell value).state ≡ b
+  post-untouched cell value h = ap state_bytes (post-kept t (state_from b) cell value h) ∙ state-written b small size
 
-  pub run-untouched : (budget : ℕ) → ((run_of t (stateFrom b) budget).number ≡ 0 → ⊥)
-      → ((run_of t (stateFrom b) budget).number ≡ 15 → ⊥)
-      → (stateBytes (run_of t (stateFrom b) budget).state ≡ b) × ((run_of t (stateFrom b) budget).steps ≡ 0)
+  pub run-untouched : (budget : ℕ) → ((run_of t (state_from b) budget).number ≡ 0 → ⊥)
+      → ((run_of t (state_from b) budget).number ≡ 15 → ⊥)
+      → (state_bytes (run_of t (state_from b) budget).state ≡ b) × ((run_of t (state_from b) budget).steps ≡ 0)
   run-untouched budget h g =
-      let k = run-kept t (stateFrom b) budget h g in (ap stateBytes k.0 ∙ state-written b small size, k.1)
+      let k = run-kept t (state_from b) budget h g in (ap state_bytes k.0 ∙ state-written b small size, k.1)
 
-zeros-bytes : stateBytes zeros ≡ replicate 264 0
-unfolding stateBytes cellsBytes joined u16Bytes u32Bytes u64Bytes i64Bytes
+zeros-bytes : state_bytes zeros ≡ replicate 264 0
+unfolding state_bytes cells_bytes joined u16_bytes u32_bytes u64_bytes i64_bytes
 zeros-bytes = refl
 
 pub fresh-zeros : (t : Table) (amounts : List ℤ) → ((fresh_of t amounts).number ≡ 0 → ⊥)
-    → stateBytes (fresh_of t amounts).state ≡ replicate 264 0
-fresh-zeros t amounts h = ap stateBytes (fresh_kept t amounts h) ∙ zeros-bytes
+    → state_bytes (fresh_of t amounts).state ≡ replicate 264 0
+fresh-zeros t amounts h = ap state_bytes (fresh_kept t amounts h) ∙ zeros-bytes

@@ -2,11 +2,11 @@
 use Rattle.std.specs.Prelude.{List, ℕ}
 use Rattle.machine_spec.specs.declared.Moved.{Moved}
 use Rattle.machine_spec.specs.declared.Ran.{Ran}
-use Rattle.layout_state.specs.States.{stateBytes}
+use Rattle.layout_state.specs.States.{state_bytes}
 use Rattle.layout_code.specs.Code.{code_of}
 
-abbrev pub stateOut : Moved → ℕ × List ℕ
-stateOut m = (code_of m.number m.place, stateBytes m.state)
+abbrev pub state_out : Moved → ℕ × List ℕ
+state_out m = (code_of m.number m.place, state_bytes m.state)
 
-abbrev pub ranOut : Ran → ℕ × List ℕ × ℕ
-ranOut x = (code_of x.number x.place, stateBytes x.state, x.steps)
+abbrev pub ran_out : Ran → ℕ × List ℕ × ℕ
+ran_out x = (code_of x.number x.place, state_bytes x.state, x.steps)

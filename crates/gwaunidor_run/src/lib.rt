@@ -1,16 +1,16 @@
 // The machine at the border: what the calls for C and Rust do.
 ghost use Rattle.std.specs.Prelude.{◌≡◌};
-ghost use Rattle.table.specs.Memory.{tableFrom};
+ghost use Rattle.table.specs.Memory.{table_from};
 ghost use Rattle.machine_spec.specs.Step.{fresh_of, step_of, post_of};
 ghost use Rattle.machine_spec.specs.Run.{run_of};
-ghost use Rattle.layout_state.specs.States.{cellsFrom, stateFrom};
-ghost use Rattle.gwaunidor_run.specs.RunOut.{stateOut, ranOut};
+ghost use Rattle.layout_state.specs.States.{cells_from, state_from};
+ghost use Rattle.gwaunidor_run.specs.RunOut.{state_out, ran_out};
 
 use machine_spec::Moved;
 
 // The state that came back, and what is returned with it.
 fn give(m: Moved, state: &mut [u8; 264]) -> u32
-    ensures { (result, state.new) ≡ stateOut m }
+    ensures { (result, state.new) ≡ state_out m }
 {
     let s = m.state;
     layout_state::store_state(s, state);
@@ -19,7 +19,7 @@ fn give(m: Moved, state: &mut [u8; 264]) -> u32
 
 // A fresh state from 32 amounts.
 pub fn fresh(table: &[u8; 9092], amounts: &[u8; 256], state: &mut [u8; 264]) -> u32
-    ensures { (result, state.new) ≡ stateOut (fresh_of (tableFrom table.now) (cellsFrom amounts.now)) }
+    ensures { (result, state.new) ≡ state_out (fresh_of (table_from table.now) (cells_from amounts.now)) }
 {
     let cells = layout_state::load_cells(amounts);
     give(machine::fresh(table, cells), state)
@@ -27,7 +27,7 @@ pub fn fresh(table: &[u8; 9092], amounts: &[u8; 256], state: &mut [u8; 264]) -> 
 
 // One step on a rule.
 pub fn step(table: &[u8; 9092], state: &mut [u8; 264], rule: u32) -> u32
-    ensures { (result, state.new) ≡ stateOut (step_of (tableFrom table.now) (stateFrom state.old) rule) }
+    ensures { (result, state.new) ≡ state_out (step_of (table_from table.now) (state_from state.old) rule) }
 {
     let s = layout_state::load_state(state);
     give(machine::step(table, s, rule), state)
@@ -35,7 +35,7 @@ pub fn step(table: &[u8; 9092], state: &mut [u8; 264], rule: u32) -> u32
 
 // A value posted to a cell.
 pub fn post(table: &[u8; 9092], state: &mut [u8; 264], cell: u32, value: i64) -> u32
-    ensures { (result, state.new) ≡ stateOut (post_of (tableFrom table.now) (stateFrom state.old) cell value) }
+    ensures { (result, state.new) ≡ state_out (post_of (table_from table.now) (state_from state.old) cell value) }
 {
     let s = layout_state::load_state(state);
     give(machine::post(table, s, cell, value), state)
@@ -43,7 +43,7 @@ pub fn post(table: &[u8; 9092], state: &mut [u8; 264], cell: u32, value: i64) ->
 
 // Steps of the lowest eligible rule until none waits or the budget is used.
 pub fn run(table: &[u8; 9092], state: &mut [u8; 264], budget: u32, steps: &mut u32) -> u32
-    ensures { (result, state.new, steps.new) ≡ ranOut (run_of (tableFrom table.now) (stateFrom state.old) budget) }
+    ensures { (result, state.new, steps.new) ≡ ran_out (run_of (table_from table.now) (state_from state.old) budget) }
 {
     let s = layout_state::load_state(state);
     let ran = machine::run(table, s, budget);

@@ -1,7 +1,7 @@
 // A report as the 512 bytes that cross the border.
 ghost use Rattle.std.specs.Prelude.{◌≡◌, cond, ◌≤◌, length};
 ghost use Rattle.bytes.specs.Put.{put};
-ghost use Rattle.layout_report.specs.Layout.{summaryBytes, reportBytes};
+ghost use Rattle.layout_report.specs.Layout.{summary_bytes, report_bytes};
 
 use analysis_masks::Report;
 
@@ -17,7 +17,7 @@ fn flag(b: bool) -> u8
 // All but the marks.
 fn put_head(out: &mut [u8], r: Report)
     requires { 16 ≤ length out.old }
-    ensures { out.new ≡ put out.old 0 (summaryBytes r) }
+    ensures { out.new ≡ put out.old 0 (summary_bytes r) }
 {
     bytes::put_4(out, 0, r.number, r.place, flag(r.cleared), 0);
     bytes::put_u32(out, 4, r.faulty);
@@ -27,7 +27,7 @@ fn put_head(out: &mut [u8], r: Report)
 }
 
 pub fn store_report(r: Report, out: &mut [u8; 512])
-    ensures { out.new ≡ reportBytes r }
+    ensures { out.new ≡ report_bytes r }
 {
     let marks = r.marks;
     put_head(out, r);

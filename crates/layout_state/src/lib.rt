@@ -1,14 +1,14 @@
 // A state as the 264 bytes that cross the border, and amounts as 256.
 ghost use Rattle.std.specs.Prelude.{◌≡◌, ◌≤◌, length};
 ghost use Rattle.bytes.specs.Put.{put};
-ghost use Rattle.layout_state.specs.States.{cellsFrom, cellsBytes, stateFrom, stateBytes};
+ghost use Rattle.layout_state.specs.States.{cells_from, cells_bytes, state_from, state_bytes};
 
 use machine_spec::State;
 
 // The first 256 bytes as 32 amounts.
 pub fn load_cells(s: &[u8]) -> [i64; 32]
     requires { 256 ≤ length s.now }
-    ensures { result ≡ cellsFrom s.now }
+    ensures { result ≡ cells_from s.now }
 {
     let mut cells = [0i64; 32];
     for i in 0..32 {
@@ -18,7 +18,7 @@ pub fn load_cells(s: &[u8]) -> [i64; 32]
 }
 
 pub fn load_state(s: &[u8; 264]) -> State
-    ensures { result ≡ stateFrom s.now }
+    ensures { result ≡ state_from s.now }
 {
     let cells = load_cells(s);
     State {
@@ -30,7 +30,7 @@ pub fn load_state(s: &[u8; 264]) -> State
 
 fn put_cells(out: &mut [u8], cells: [i64; 32])
     requires { 256 ≤ length out.old }
-    ensures { out.new ≡ put out.old 0 (cellsBytes cells 32) }
+    ensures { out.new ≡ put out.old 0 (cells_bytes cells 32) }
 {
     for i in 0..32 {
         bytes::put_i64(out, 8 * i, cells[i]);
@@ -38,7 +38,7 @@ fn put_cells(out: &mut [u8], cells: [i64; 32])
 }
 
 pub fn store_state(s: State, out: &mut [u8; 264])
-    ensures { out.new ≡ stateBytes s }
+    ensures { out.new ≡ state_bytes s }
 {
     let cells = s.cells;
     put_cells(out, cells);

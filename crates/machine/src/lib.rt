@@ -2,10 +2,10 @@
 ghost use Rattle.std.specs.Prelude.{◌≡◌};
 ghost use Rattle.mask.specs.First.{first_of};
 ghost use Rattle.bytes.specs.Little.{byte_at};
-ghost use Rattle.table.specs.Memory.{tableFrom};
+ghost use Rattle.table.specs.Memory.{table_from};
 ghost use Rattle.table.specs.TableInner.{Sizes};
 ghost use Rattle.machine_spec.specs.State.{still};
-ghost use Rattle.machine_spec.specs.Step.{moved, stepNumbers, step_of, postNumbers, post_of, fresh_of};
+ghost use Rattle.machine_spec.specs.Step.{moved, step_numbers, step_of, post_numbers, post_of, fresh_of};
 ghost use Rattle.machine_spec.specs.Run.{run_of};
 ghost use Rattle.machine_step.specs.MachineStepInner.{state_of};
 
@@ -35,7 +35,7 @@ fn still(cells: [i64; 32]) -> State
 
 // A fresh state from 32 amounts; a state of zeros where refused.
 pub fn fresh(table: &[u8; 9092], cells: [i64; 32]) -> Moved
-    ensures { result ≡ fresh_of (tableFrom table.now) cells }
+    ensures { result ≡ fresh_of (table_from table.now) cells }
 {
     let none = still([0i64; 32]);
     let a = table::check(table);
@@ -55,7 +55,7 @@ pub fn fresh(table: &[u8; 9092], cells: [i64; 32]) -> Moved
 // A step's own numbers, upward: 11 to 14, or 0.
 fn step_number(table: &[u8], cells: &[i64; 32], m: StateMasks, r: u32) -> u8
     requires { Sizes table.now (byte_at table.now 1) (byte_at table.now 2) }
-    ensures { result ≡ first_of 0 (stepNumbers (tableFrom table.now) (state_of cells.now m) r) }
+    ensures { result ≡ first_of 0 (step_numbers (table_from table.now) (state_of cells.now m) r) }
 {
     if machine_step::state_bad(table[1], table[2], cells, m) {
         return 11;
@@ -77,7 +77,7 @@ fn step_number(table: &[u8], cells: &[i64; 32], m: StateMasks, r: u32) -> u8
 
 // One step on r.
 pub fn step(table: &[u8; 9092], s: State, r: u32) -> Moved
-    ensures { result ≡ step_of (tableFrom table.now) s r }
+    ensures { result ≡ step_of (table_from table.now) s r }
 {
     let a = table::check(table);
     if a.number != 0 {
@@ -101,7 +101,7 @@ pub fn step(table: &[u8; 9092], s: State, r: u32) -> Moved
 // A posting's own numbers, upward: 11 and 16, or 0.
 fn post_number(table: &[u8], cells: &[i64; 32], m: StateMasks, cell: u32, value: i64) -> u8
     requires { Sizes table.now (byte_at table.now 1) (byte_at table.now 2) }
-    ensures { result ≡ first_of 0 (postNumbers (tableFrom table.now) (state_of cells.now m) cell value) }
+    ensures { result ≡ first_of 0 (post_numbers (table_from table.now) (state_of cells.now m) cell value) }
 {
     if machine_step::state_bad(table[1], table[2], cells, m) {
         return 11;
@@ -114,7 +114,7 @@ fn post_number(table: &[u8], cells: &[i64; 32], m: StateMasks, cell: u32, value:
 
 // A value posted to a cell.
 pub fn post(table: &[u8; 9092], s: State, cell: u32, value: i64) -> Moved
-    ensures { result ≡ post_of (tableFrom table.now) s cell value }
+    ensures { result ≡ post_of (table_from table.now) s cell value }
 {
     let a = table::check(table);
     if a.number != 0 {
@@ -141,7 +141,7 @@ pub fn post(table: &[u8; 9092], s: State, cell: u32, value: i64) -> Moved
 
 // Steps of the lowest eligible rule until none waits or the budget is used. The table is checked once.
 pub fn run(table: &[u8; 9092], s: State, budget: u32) -> Ran
-    ensures { result ≡ run_of (tableFrom table.now) s budget }
+    ensures { result ≡ run_of (table_from table.now) s budget }
 {
     let a = table::check(table);
     if a.number != 0 {

@@ -3,7 +3,7 @@ ghost use Rattle.std.specs.Prelude.{◌≡◌, ◌&&◌, not, ℕ};
 ghost use Rattle.mask.specs.Search.{some};
 ghost use Rattle.mask.specs.Mask.{has};
 ghost use Rattle.mask.specs.MaskInner.{named};
-ghost use Rattle.table.specs.Memory.{tableFrom};
+ghost use Rattle.table.specs.Memory.{table_from};
 ghost use Rattle.machine_spec.specs.State.{Fits};
 ghost use Rattle.machine_spec.specs.Run.{ran, runs};
 ghost use Rattle.machine_step.specs.MachineStepInner.{state_of};
@@ -45,8 +45,8 @@ fn eligible(rows: &[u32; 32], waiting: u32) -> u32
 
 // The lowest eligible rule is stepped until none waits or the budget is used: the cells are lent to each step.
 pub fn runs(table: &[u8], row: &[u32; 32], rows: &[u32; 32], s: State, budget: u32) -> Ran
-    requires { Lent table.now row.now rows.now × Fits (tableFrom table.now) s }
-    ensures { result ≡ runs (tableFrom table.now) s budget }
+    requires { Lent table.now row.now rows.now × Fits (table_from table.now) s }
+    ensures { result ≡ runs (table_from table.now) s budget }
 {
     let mut cells = s.cells;
     let mut m = StateMasks {

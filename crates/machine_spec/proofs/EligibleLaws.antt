@@ -4,15 +4,15 @@ use mathlib.Core.Logic.{⊎_elim}
 use mathlib.Core.Bool.{true, not, false≢true}
 use Prim.Native.Nat.{ℕ, ◌<◌}
 use native.Mathlib.Nat.{le_trans}
-use Rattle.mask.proofs.SearchLaws.{Found, and-true-both, Least, least-is, lt-or-ge}
+use Rattle.mask.proofs.SearchLaws.{Found, and_true_both, Least, least-is, lt-or_ge}
 use Rattle.mask.proofs.MaskLaws.{lowest-has}
 use Rattle.mask.specs.MaskInner.{lowest}
-use Rattle.table.specs.Table.{Table, goesBefore}
+use Rattle.table.specs.Table.{Table, goes_before}
 use Rattle.table.specs.Check.{Sound}
 use Rattle.table.proofs.SoundLaws.{parts}
 use Rattle.table.proofs.BeforeLaws.{irreflexive, transitive}
 use Rattle.machine_spec.specs.declared.State.{State}
-use Rattle.machine_spec.specs.State.{Fits, waits, heldBack, eligible, lowestOf}
+use Rattle.machine_spec.specs.State.{Fits, waits, held_back, eligible, lowest_of}
 use Rattle.machine_spec.proofs.StateLaws.{fits-waiting}
 use Rattle.machine_spec.proofs.HeldBackLaws.{eligible-by}
 use Rattle.orders.specs.Runner.{Runner, eligible-at-or-before}
@@ -29,9 +29,9 @@ module _ (t : Table) (s : State) (sd : Sound t) (h : Fits t s) where
         State = State;
         waits = waits;
         step = λ r s. s;
-        goesBefore = goesBefore t;
-        goesBefore-irreflexive = irreflexive t sd;
-        goesBefore-transitive = λ r s u lr ls lu a b. transitive t r s u ls a b;
+        goes_before = goes_before t;
+        goes_before-irreflexive = irreflexive t sd;
+        goes_before-transitive = λ r s u lr ls lu a b. transitive t r s u ls a b;
       }
 
   pub some-eligible : (r : ℕ) → waits s r ≡ true → Found 32 (eligible t s)
@@ -44,16 +44,16 @@ module _ (t : Table) (s : State) (sd : Sound t) (h : Fits t s) where
       }
 
   -- so the lowest is one
-  pub lowest-eligible : (s.waiting ≡ 0 → ⊥) → (lowestOf t s < 32) × (eligible t s (lowestOf t s) ≡ true)
+  pub lowest-eligible : (s.waiting ≡ 0 → ⊥) → (lowest_of t s < 32) × (eligible t s (lowest_of t s) ≡ true)
   lowest-eligible ne =
       let x : Found 32 (eligible t s) = some-eligible (lowest s.waiting)
       (lowest-has s.waiting h.waiting ne).1 in
-      let d : Least 32 (eligible t s) (lowestOf t s) = least-is 32 (eligible t s) in
+      let d : Least 32 (eligible t s) (lowest_of t s) = least-is 32 (eligible t s) in
       ⊎_elim (λ l. (l, d.is l))
       (λ l. absurd (false≢true (sym (d.first x.at (le_trans x.lt l)) ∙ x.is)))
-      (lt-or-ge (lowestOf t s) 32)
+      (lt-or_ge (lowest_of t s) 32)
 
-  pub lowest-below : (s.waiting ≡ 0 → ⊥) → lowestOf t s < t.n
+  pub lowest-below : (s.waiting ≡ 0 → ⊥) → lowest_of t s < t.n
   lowest-below ne =
-      below (lowestOf t s) (and-true-both (waits s (lowestOf t s)) (not (heldBack t s (lowestOf t s)))
+      below (lowest_of t s) (and_true_both (waits s (lowest_of t s)) (not (held_back t s (lowest_of t s)))
       (lowest-eligible ne).1).0

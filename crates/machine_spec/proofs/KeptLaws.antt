@@ -7,29 +7,29 @@ use mathlib.Core.List.{List, [], ◌∷◌}
 use Prim.Native.Nat.{ℕ, zero, suc}
 use lib.Dec.{eqb}
 use lib.IntN.{ℤ}
-use Rattle.rule.specs.Numbers.{notZero}
+use Rattle.rule.specs.Numbers.{not_zero}
 use Rattle.table.specs.Table.{Table}
-use Rattle.table.specs.Check.{checkOf}
+use Rattle.table.specs.Check.{check_of}
 use Rattle.machine_spec.specs.declared.State.{State}
 use Rattle.machine_spec.specs.declared.Ran.{Ran}
-use Rattle.machine_spec.specs.State.{stateBad, still, zeros}
-use Rattle.machine_spec.specs.Step.{effect, stepNumbers, step_of, postNumbers, post_of, fresh_of}
+use Rattle.machine_spec.specs.State.{state_bad, still, zeros}
+use Rattle.machine_spec.specs.Step.{effect, step_numbers, step_of, post_numbers, post_of, fresh_of}
 use Rattle.machine_spec.specs.Run.{ran, later, runs, run_of}
 use Rattle.machine_spec.proofs.StepLaws.{answered-kept}
 use Rattle.machine_spec.proofs.RunLaws.{next}
 
 pub step_kept : (t : Table) (s : State) (r : ℕ) → ((step_of t s r).number ≡ 0 → ⊥) → (step_of t s r).state ≡ s
 unfolding step_of
-step_kept t s r = answered-kept t (stepNumbers t s r) s (effect t s r)
+step_kept t s r = answered-kept t (step_numbers t s r) s (effect t s r)
 
 pub post-kept : (t : Table) (s : State) (cell : ℕ) (value : ℤ) → ((post_of t s cell value).number ≡ 0 → ⊥)
     → (post_of t s cell value).state ≡ s
 unfolding post_of
-post-kept t s cell value = answered-kept t (postNumbers t s cell value) s _
+post-kept t s cell value = answered-kept t (post_numbers t s cell value) s _
 
 pub fresh_kept : (t : Table) (amounts : List ℤ) → ((fresh_of t amounts).number ≡ 0 → ⊥) → (fresh_of t amounts).state ≡ zeros
 unfolding fresh_of
-fresh_kept t amounts = answered-kept t ((stateBad t (still amounts), 11) ∷ []) zeros (still amounts)
+fresh_kept t amounts = answered-kept t ((state_bad t (still amounts), 11) ∷ []) zeros (still amounts)
 
 -- a run that was not refused is done or has its budget spent
 runs_number : (t : Table) (s : State) (budget : ℕ) → ((runs t s budget).number ≡ 0) ⊎ ((runs t s budget).number ≡ 15)
@@ -49,10 +49,10 @@ runs_number t s (suc budget) = pick (eqb s.waiting 0) (runs t (next t s) budget)
 pub run-kept : (t : Table) (s : State) (budget : ℕ) → ((run_of t s budget).number ≡ 0 → ⊥) → ((run_of t s budget).number ≡ 15 → ⊥)
     → ((run_of t s budget).state ≡ s) × ((run_of t s budget).steps ≡ 0)
 unfolding run_of
-run-kept t s budget = pick (notZero (checkOf t).number) (stateBad t s)
+run-kept t s budget = pick (not_zero (check_of t).number) (state_bad t s)
   where
     pick : (b c : Bool)
-        → let x = cond b (ran (checkOf t).number (checkOf t).place s 0) (cond c (ran 11 255 s 0) (runs t s budget)) in
+        → let x = cond b (ran (check_of t).number (check_of t).place s 0) (cond c (ran 11 255 s 0) (runs t s budget)) in
         (x.number ≡ 0 → ⊥) → (x.number ≡ 15 → ⊥) → (x.state ≡ s) × (x.steps ≡ 0)
     pick true c h g = (refl, refl)
     pick false true h g = (refl, refl)

@@ -7,10 +7,10 @@ use native.Mathlib.Omega.{arith}
 use borrow.Author.Tests.{eq-eqb, ne_eqb}
 use Rattle.table.specs.Table.{Table}
 use Rattle.table.specs.declared.Answer.{Answer}
-use Rattle.table.specs.Check.{checkOf, Sound}
+use Rattle.table.specs.Check.{check_of, Sound}
 use Rattle.machine_spec.specs.declared.State.{State}
 use Rattle.machine_spec.specs.declared.Ran.{Ran}
-use Rattle.machine_spec.specs.State.{stateBad, Fits, lowestOf}
+use Rattle.machine_spec.specs.State.{state_bad, Fits, lowest_of}
 use Rattle.machine_spec.specs.Step.{effect, moved, step_of}
 use Rattle.machine_spec.proofs.EffectLaws.{effect-fits}
 use Rattle.machine_spec.proofs.StepLaws.{step_is}
@@ -21,7 +21,7 @@ use Rattle.machine_spec.specs.Run.{ran, later, runs, run_of}
 
 -- of the lowest-numbered eligible rule
 abbrev pub next : Table → State → State
-next t s = effect t s (lowestOf t s)
+next t s = effect t s (lowest_of t s)
 
 later-none : (x : Ran) → x ≡ later 0 x
 later-none x = ap (ran x.number x.place x.state) (omega arith)
@@ -48,7 +48,7 @@ runs-more t s budget ne = rw (ne_eqb s.waiting 0 ne)
 -- n calls of the step, one after another, each done and each on that rule
 pub data LowestSteps (t : Table) : State → ℕ → State → Type 0 where
   none : {s : State} → LowestSteps t s 0 s
-  more : {s u : State} {n : ℕ} → step_of t s (lowestOf t s) ≡ moved 0 255 (next t s) → LowestSteps t (next t s) n u
+  more : {s u : State} {n : ℕ} → step_of t s (lowest_of t s) ≡ moved 0 255 (next t s) → LowestSteps t (next t s) n u
       → LowestSteps t s (suc n) u
 
 -- how a run ends: nothing waits, or the budget is used while something waits
@@ -62,7 +62,7 @@ pub record RanSo (t : Table) (s : State) (budget : ℕ) (x : Ran) : Type 0 where
   pub place : x.place ≡ 255
   pub ended : RunEnd budget x
 
-one_later : {t : Table} {s : State} {budget : ℕ} {x : Ran} → step_of t s (lowestOf t s) ≡ moved 0 255 (next t s)
+one_later : {t : Table} {s : State} {budget : ℕ} {x : Ran} → step_of t s (lowest_of t s) ≡ moved 0 255 (next t s)
     → RanSo t (next t s) budget x → RanSo t s (suc budget) (later 1 x)
 one_later {t} {s} {budget} {x} e h =
     record {
@@ -95,21 +95,21 @@ runs-steps t s (suc budget) sd h = pick (ℕ_discrete s.waiting 0) (runs-steps t
         → RanSo t s (suc budget) (runs t s (suc budget))
     pick (yes e) rest = runs-still t s (suc budget) h e
     pick (no ne) rest =
-        let l : lowestOf t s < t.n = lowest-below t s sd h ne in
+        let l : lowest_of t s < t.n = lowest-below t s sd h ne in
         subst (RanSo t s (suc budget)) (sym (runs-more t s budget ne))
-        (one_later (step_is t s (lowestOf t s) sd h l (lowest-eligible t s sd h ne).1)
-        (rest (effect-fits t s (lowestOf t s) sd h l)))
+        (one_later (step_is t s (lowest_of t s) sd h l (lowest-eligible t s sd h ne).1)
+        (rest (effect-fits t s (lowest_of t s) sd h l)))
 
 -- ---- the call
 module _ (t : Table) (s : State) (budget : ℕ) where
   -- refused by the table; refused by 11; run
-  pub run-table : (a : Answer) → a ≡ checkOf t → (a.number ≡ 0 → ⊥) → ran a.number a.place s 0 ≡ run_of t s budget
+  pub run-table : (a : Answer) → a ≡ check_of t → (a.number ≡ 0 → ⊥) → ran a.number a.place s 0 ≡ run_of t s budget
   unfolding run_of
   run-table a e ne = rw (← e, ne_eqb a.number 0 ne)
 
-  pub run-11 : Sound t → stateBad t s ≡ true → run_of t s budget ≡ ran 11 255 s 0
+  pub run_11 : Sound t → state_bad t s ≡ true → run_of t s budget ≡ ran 11 255 s 0
   unfolding run_of
-  run-11 sd e = rw (ap (λ (a : Answer). a.number) sd.checked, e)
+  run_11 sd e = rw (ap (λ (a : Answer). a.number) sd.checked, e)
 
   pub run_is : Sound t → Fits t s → run_of t s budget ≡ runs t s budget
   unfolding run_of

@@ -9,29 +9,29 @@ use lib.Dec.{eqb-suc-zero}
 use borrow.Author.Tests.{leb-false, lt-leb, ne_eqb, not-false, not-true}
 use Rattle.mask.specs.First.{first_of}
 use Rattle.mask.proofs.FirstLaws.{number_passed, passed_first}
-use Rattle.mask.proofs.SearchLaws.{and-true-both}
-use Rattle.rule.specs.Numbers.{notZero}
+use Rattle.mask.proofs.SearchLaws.{and_true_both}
+use Rattle.rule.specs.Numbers.{not_zero}
 use Rattle.table.specs.Table.{Table}
 use Rattle.table.specs.declared.Answer.{Answer}
 use Rattle.table.proofs.SoundLaws.{sound-by}
-use Rattle.table.specs.Check.{checkOf, Sound}
+use Rattle.table.specs.Check.{check_of, Sound}
 use Rattle.machine_spec.specs.declared.State.{State}
-use Rattle.machine_spec.specs.State.{stateBad, Fits, waits, heldBack, eligible}
-use Rattle.machine_spec.specs.Step.{effect, moved, answered, stepNumbers, step_of}
+use Rattle.machine_spec.specs.State.{state_bad, Fits, waits, held_back, eligible}
+use Rattle.machine_spec.specs.Step.{effect, moved, answered, step_numbers, step_of}
 use Rattle.machine_spec.proofs.EffectLaws.{effect-fits}
 
 -- r can be stepped: none of 11 to 14 applies
 pub record Stepping (t : Table) (s : State) (r : ℕ) : Type 0 where
-  pub good : stateBad t s ≡ false
+  pub good : state_bad t s ≡ false
   pub below : r < t.n
   pub waiting : waits s r ≡ true
-  pub free : heldBack t s r ≡ false
+  pub free : held_back t s r ≡ false
 
 module _ (t : Table) (s : State) (r : ℕ) where
-  pub stepping : first_of 0 (stepNumbers t s r) ≡ 0 → Stepping t s r
-  unfolding stepNumbers
+  pub stepping : first_of 0 (step_numbers t s r) ≡ 0 → Stepping t s r
+  unfolding step_numbers
   stepping e =
-      let p = number_passed (stepNumbers t s r) refl e in
+      let p = number_passed (step_numbers t s r) refl e in
       record {
         good = p.0;
         below = leb-false t.n r p.1.0;
@@ -39,31 +39,31 @@ module _ (t : Table) (s : State) (r : ℕ) where
         free = p.1.1.1.0;
       }
 
-  pub stepping-number : Stepping t s r → first_of 0 (stepNumbers t s r) ≡ 0
-  unfolding stepNumbers
+  pub stepping-number : Stepping t s r → first_of 0 (step_numbers t s r) ≡ 0
+  unfolding step_numbers
   stepping-number h =
-      passed_first 0 (stepNumbers t s r) (h.good, (lt-leb t.n r h.below, (ap not h.waiting, (h.free, tt))))
+      passed_first 0 (step_numbers t s r) (h.good, (lt-leb t.n r h.below, (ap not h.waiting, (h.free, tt))))
 
 -- ---- an answer
 module _ (t : Table) (numbers : List (Bool × ℕ)) (given after : State) where
   -- it is done where neither the table nor the call has a number
   pub answered-done : (answered t numbers given after).number ≡ 0 → Sound t × (first_of 0 numbers ≡ 0)
   unfolding answered
-  answered-done e = pick (checkOf t).number (first_of 0 numbers) refl refl e
+  answered-done e = pick (check_of t).number (first_of 0 numbers) refl refl e
     where
-      pick : (a b : ℕ) → (checkOf t).number ≡ a → first_of 0 numbers ≡ b
-          → (cond (notZero a) (moved a (checkOf t).place given)
-          (cond (notZero b) (moved b 255 given) (moved 0 255 after))).number ≡ 0
+      pick : (a b : ℕ) → (check_of t).number ≡ a → first_of 0 numbers ≡ b
+          → (cond (not_zero a) (moved a (check_of t).place given)
+          (cond (not_zero b) (moved b 255 given) (moved 0 255 after))).number ≡ 0
           → Sound t × (first_of 0 numbers ≡ 0)
       pick zero zero e q z = (sound-by t e, q)
       pick zero (suc b) e q z = let y : suc b ≡ 0 = rw (eqb-suc-zero b) at z in absurd (omega arith)
       pick (suc a) b e q z = let y : suc a ≡ 0 = rw (eqb-suc-zero a) at z in absurd (omega arith)
 
   -- refused by the table; refused by the call; done
-  pub answered-table : ((checkOf t).number ≡ 0 → ⊥)
-      → answered t numbers given after ≡ moved (checkOf t).number (checkOf t).place given
+  pub answered-table : ((check_of t).number ≡ 0 → ⊥)
+      → answered t numbers given after ≡ moved (check_of t).number (check_of t).place given
   unfolding answered
-  answered-table ne = rw (ne_eqb (checkOf t).number 0 ne)
+  answered-table ne = rw (ne_eqb (check_of t).number 0 ne)
 
   pub answered-own : Sound t → (first_of 0 numbers ≡ 0 → ⊥) → answered t numbers given after ≡ moved (first_of 0 numbers) 255 given
   unfolding answered
@@ -76,10 +76,10 @@ module _ (t : Table) (numbers : List (Bool × ℕ)) (given after : State) where
   -- refused, the state is the one given
   pub answered-kept : ((answered t numbers given after).number ≡ 0 → ⊥) → (answered t numbers given after).state ≡ given
   unfolding answered
-  answered-kept = pick (notZero (checkOf t).number) (notZero (first_of 0 numbers))
+  answered-kept = pick (not_zero (check_of t).number) (not_zero (first_of 0 numbers))
     where
       pick : (b c : Bool)
-          → let m = cond b (moved (checkOf t).number (checkOf t).place given)
+          → let m = cond b (moved (check_of t).number (check_of t).place given)
           (cond c (moved (first_of 0 numbers) 255 given) (moved 0 255 after)) in (m.number ≡ 0 → ⊥) → m.state ≡ given
       pick true c h = refl
       pick false true h = refl
@@ -89,17 +89,17 @@ module _ (t : Table) (numbers : List (Bool × ℕ)) (given after : State) where
   pub answered-fits : Fits t given → (Sound t → first_of 0 numbers ≡ 0 → Fits t after)
       → Fits t (answered t numbers given after).state
   unfolding answered
-  answered-fits h f = pick (checkOf t).number (first_of 0 numbers) refl refl
+  answered-fits h f = pick (check_of t).number (first_of 0 numbers) refl refl
     where
-      pick : (a b : ℕ) → (checkOf t).number ≡ a → first_of 0 numbers ≡ b
-          → Fits t (cond (notZero a) (moved a (checkOf t).place given)
-          (cond (notZero b) (moved b 255 given) (moved 0 255 after))).state
+      pick : (a b : ℕ) → (check_of t).number ≡ a → first_of 0 numbers ≡ b
+          → Fits t (cond (not_zero a) (moved a (check_of t).place given)
+          (cond (not_zero b) (moved b 255 given) (moved 0 255 after))).state
       pick zero zero e q = f (sound-by t e) q
       pick zero (suc b) e q = rw (eqb-suc-zero b) h
       pick (suc a) b e q = rw (eqb-suc-zero a) h
 
 -- what a call's first check tells: the table is sound, or its answer is the call's
-module _ (t : Table) (a : Answer) (e : a ≡ checkOf t) where
+module _ (t : Table) (a : Answer) (e : a ≡ check_of t) where
   pub checked-sound : a.number ≡ 0 → Sound t
   checked-sound z = sound-by t (ap (λ (x : Answer). x.number) (sym e) ∙ z)
 
@@ -115,18 +115,18 @@ module _ (t : Table) (s : State) (r : ℕ) where
   pub step_is : Sound t → Fits t s → r < t.n → eligible t s r ≡ true → step_of t s r ≡ moved 0 255 (effect t s r)
   unfolding step_of
   step_is sd h l e =
-      let p = and-true-both (waits s r) (not (heldBack t s r)) e in
-      answered-is t (stepNumbers t s r) s (effect t s r) sd
+      let p = and_true_both (waits s r) (not (held_back t s r)) e in
+      answered-is t (step_numbers t s r) s (effect t s r) sd
       (stepping-number t s r
-      (record { good = h.good; below = l; waiting = p.0; free = not-true (heldBack t s r) p.1 }))
+      (record { good = h.good; below = l; waiting = p.0; free = not-true (held_back t s r) p.1 }))
 
   pub step-done : (step_of t s r).number ≡ 0 → Sound t × Stepping t s r
   unfolding step_of
   step-done e =
-      let p = answered-done t (stepNumbers t s r) s (effect t s r) e in
+      let p = answered-done t (step_numbers t s r) s (effect t s r) e in
       (p.0, stepping t s r p.1)
 
   pub step_fits : Fits t s → Fits t (step_of t s r).state
   unfolding step_of
   step_fits h =
-      answered-fits t (stepNumbers t s r) s (effect t s r) h (λ sd e. effect-fits t s r sd h (stepping t s r e).below)
+      answered-fits t (step_numbers t s r) s (effect t s r) h (λ sd e. effect-fits t s r sd h (stepping t s r e).below)

@@ -4,9 +4,9 @@ ghost use Rattle.mask.specs.Search.{some};
 ghost use Rattle.mask.specs.Mask.{has, meet, mask_of};
 ghost use Rattle.rule_sums.specs.RuleSumsInner.{InRange};
 ghost use Rattle.rule_act.specs.RuleActInner.{Slot};
-ghost use Rattle.table.specs.TableInner.{slotStart, ruleFrom};
-ghost use Rattle.machine_spec.specs.State.{cellBad};
-ghost use Rattle.machine_step.specs.MachineStepInner.{state_of, stateBadBy, effectBy};
+ghost use Rattle.table.specs.TableInner.{slot_start, rule_from};
+ghost use Rattle.machine_spec.specs.State.{cell_bad};
+ghost use Rattle.machine_step.specs.MachineStepInner.{state_of, state_bad_by, effect_by};
 
 // Who waits, and who has a fault mark: a state without its cells.
 #[derive(Drop)]
@@ -17,7 +17,7 @@ pub struct StateMasks {
 
 // Whether a cell's amount is out of range, or not 0 from k up.
 fn cells_bad(cells: &[i64; 32], k: usize) -> bool
-    ensures { result ≡ some 32 (cellBad k cells.now) }
+    ensures { result ≡ some 32 (cell_bad k cells.now) }
 {
     let mut bad = false;
     for c in 0..32 {
@@ -31,7 +31,7 @@ fn cells_bad(cells: &[i64; 32], k: usize) -> bool
 // 11: whether the state does not fit a table of n rules and k cells.
 pub fn state_bad(n: u8, k: u8, cells: &[i64; 32], m: StateMasks) -> bool
     requires { n ≤ 32 }
-    ensures { result ≡ stateBadBy n k (state_of cells.now m) }
+    ensures { result ≡ state_bad_by n k (state_of cells.now m) }
 {
     let rules = rule::count(n);
     cells_bad(cells, rule::count(k))
@@ -48,8 +48,8 @@ pub fn woken(row: &[u32; 32], waiting: u32, m: u32) -> u32
 
 // The paper's step on rule r: what the cells and the masks are after it.
 pub fn turn(s: &[u8], r: usize, row: &[u32; 32], cells: &mut [i64; 32], m: StateMasks) -> StateMasks
-    requires { Slot s.now (slotStart r) × InRange cells.old × (r < 32) }
-    ensures { state_of cells.new result ≡ effectBy (ruleFrom s.now r) row.now (state_of cells.old m) r }
+    requires { Slot s.now (slot_start r) × InRange cells.old × (r < 32) }
+    ensures { state_of cells.new result ≡ effect_by (rule_from s.now r) row.now (state_of cells.old m) r }
 {
     let at = 4 + 284 * r;
     let rest = StateMasks {

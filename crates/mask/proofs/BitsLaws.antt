@@ -24,31 +24,31 @@ module _ (op : ℕ → ℕ → ℕ) (f : Bool → Bool → Bool)
     (low : (a b k : ℕ) → op a b % 2 ^ k ≡ op (a % 2 ^ k) (b % 2 ^ k))
     (t00 : eqb (op 0 0) 1 ≡ f false false) (t01 : eqb (op 0 1) 1 ≡ f false true)
     (t10 : eqb (op 1 0) 1 ≡ f true false) (t11 : eqb (op 1 1) 1 ≡ f true true) where
-  op-digit : (x : ℕ) → x < 2 → (y : ℕ) → y < 2 → eqb (op x y) 1 ≡ f (eqb x 1) (eqb y 1)
-  op-digit =
+  op_digit : (x : ℕ) → x < 2 → (y : ℕ) → y < 2 → eqb (op x y) 1 ≡ f (eqb x 1) (eqb y 1)
+  op_digit =
       digit (λ x. (y : ℕ) → y < 2 → eqb (op x y) 1 ≡ f (eqb x 1) (eqb y 1))
       (digit (λ y. eqb (op 0 y) 1 ≡ f (eqb 0 1) (eqb y 1)) t00 t01)
       (digit (λ y. eqb (op 1 y) 1 ≡ f (eqb 1 1) (eqb y 1)) t10 t11)
 
-  op-has : (a b i : ℕ) → has (op a b) i ≡ f (has a i) (has b i)
+  op_has : (a b i : ℕ) → has (op a b) i ≡ f (has a i) (has b i)
   unfolding has
-  op-has a b i =
+  op_has a b i =
       ap (λ (x : ℕ). eqb (x % 2) 1) (shr a b i)
       ∙ ap (λ (x : ℕ). eqb x 1) (low (a / 2 ^ i) (b / 2 ^ i) 1)
-      ∙ op-digit (a / 2 ^ i % 2) (mod-lt (a / 2 ^ i) (lit< tt)) (b / 2 ^ i % 2) (mod-lt (b / 2 ^ i) (lit< tt))
+      ∙ op_digit (a / 2 ^ i % 2) (mod-lt (a / 2 ^ i) (lit< tt)) (b / 2 ^ i % 2) (mod-lt (b / 2 ^ i) (lit< tt))
 
 pub has-and : (a b i : ℕ) → has (bit_and a b) i ≡ (has a i && has b i)
-has-and = op-has bit_and ◌&&◌ and_shr and_mod refl refl refl refl
+has-and = op_has bit_and ◌&&◌ and_shr and_mod refl refl refl refl
 
 pub has-or : (a b i : ℕ) → has (bit_or a b) i ≡ (has a i || has b i)
-has-or = op-has bit_or ◌||◌ or_shr or_mod refl refl refl refl
+has-or = op_has bit_or ◌||◌ or_shr or_mod refl refl refl refl
 
 abbrev pub unlike : Bool → Bool → Bool
 unlike true b = not b
 unlike false b = b
 
 pub has-xor : (a b i : ℕ) → has (bit_xor a b) i ≡ unlike (has a i) (has b i)
-has-xor = op-has bit_xor unlike xor_shr xor_mod refl refl refl refl
+has-xor = op_has bit_xor unlike xor_shr xor_mod refl refl refl refl
 
 -- ---- single bits, and bits too high
 
@@ -64,18 +64,18 @@ pub has-suc : (m i : ℕ) → has m (suc i) ≡ has (m / 2) i
 unfolding has
 has-suc m i = ap (λ (x : ℕ). eqb (m / 2 ^ x % 2) 1) (sym (one-add i)) ∙ ap (λ (x : ℕ). eqb (x % 2) 1) (sym (shr-shr m 1 i))
 
-pub has-bit : (j i : ℕ) → has (2 ^ j) i ≡ eqb i j
+pub has_bit : (j i : ℕ) → has (2 ^ j) i ≡ eqb i j
 unfolding has
-has-bit zero zero = refl
-has-bit zero (suc i) = has-suc 1 i ∙ has-zero i ∙ sym (eqb-suc-zero i)
-has-bit (suc j) zero =
+has_bit zero zero = refl
+has_bit zero (suc i) = has-suc 1 i ∙ has-zero i ∙ sym (eqb-suc-zero i)
+has_bit (suc j) zero =
     ap (λ (x : ℕ). eqb (x / 1 % 2) 1) (sym (one-mul (2 ^ suc j)))
     ∙ ap (λ (x : ℕ). eqb (x % 2) 1) (div-one (1 * 2 ^ suc j))
     ∙ ap (λ (x : ℕ). eqb x 1) (shifted_even 1 j) ∙ sym (eqb-zero-suc j)
-has-bit (suc j) (suc i) =
+has_bit (suc j) (suc i) =
     has-suc (2 ^ suc j) i
     ∙ ap (λ (x : ℕ). has (x / 2) i) (sym (one-mul (2 ^ suc j)))
-    ∙ ap (λ (x : ℕ). has x i) (shifted_half 1 j ∙ one-mul (2 ^ j)) ∙ has-bit j i ∙ sym (eqb-suc-suc i j)
+    ∙ ap (λ (x : ℕ). has x i) (shifted_half 1 j ∙ one-mul (2 ^ j)) ∙ has_bit j i ∙ sym (eqb-suc-suc i j)
 
 pub has-lt : {m : ℕ} (k i : ℕ) → m < 2 ^ k → has m i ≡ true → i < k
 has-lt {m} k i h e = pick (ltb i k) refl
@@ -99,8 +99,8 @@ low_digit a b e = go (a % 2) (mod-lt a (lit< tt)) (b % 2) (mod-lt b (lit< tt)) (
         (digit (λ y. eqb 0 1 ≡ eqb y 1 → 0 ≡ y) (λ q. refl) (λ q. absurd (false≢true q)))
         (digit (λ y. eqb 1 1 ≡ eqb y 1 → 1 ≡ y) (λ q. absurd (false≢true (sym q))) (λ q. refl))
 
-lt-of-div-zero : {m d : ℕ} → 0 < d → m / d ≡ 0 → m < d
-lt-of-div-zero {m} {d} h e = subst (λ (x : ℕ). m < x) (one-mul d) ((div-lt_iff_lt-mul h).0 (subst (λ (x : ℕ). x < 1) (sym e) (lit< tt)))
+lt_of_div-zero : {m d : ℕ} → 0 < d → m / d ≡ 0 → m < d
+lt_of_div-zero {m} {d} h e = subst (λ (x : ℕ). m < x) (one-mul d) ((div-lt_iff_lt-mul h).0 (subst (λ (x : ℕ). x < 1) (sym e) (lit< tt)))
 
 pub ext : (k a b : ℕ) → a < 2 ^ k → b < 2 ^ k → ((i : ℕ) → i < k → has a i ≡ has b i) → a ≡ b
 ext zero a b ha hb h = lt-one ha ∙ sym (lt-one hb)
@@ -117,7 +117,7 @@ unfolding has
 has-add m n i = ap (λ (x : ℕ). eqb (x % 2) 1) (shr-shr m n i)
 
 pub below : (w n m : ℕ) → m < 2 ^ w → ((i : ℕ) → n ≤ i → has m i ≡ false) → m < 2 ^ n
-below w n m hm h = lt-of-div-zero (pow_pos n) (ext w (m / 2 ^ n) 0 (lt_of_le_of_lt (div-le_self m (2 ^ n)) hm) (pow_pos w) (λ i l. has-add m n i ∙ h (n + i) (le-add_right n i) ∙ sym (has-zero i)))
+below w n m hm h = lt_of_div-zero (pow_pos n) (ext w (m / 2 ^ n) 0 (lt_of_le_of_lt (div-le_self m (2 ^ n)) hm) (pow_pos w) (λ i l. has-add m n i ∙ h (n + i) (le-add_right n i) ∙ sym (has-zero i)))
 
 -- ---- all the numbers below n: `(1 << n) - 1`
 

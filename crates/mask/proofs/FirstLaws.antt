@@ -4,7 +4,7 @@ use mathlib.Core.Bool.{Bool, true, false, not, ◌&&◌, cond, false≢true}
 use mathlib.Core.List.{List, [], ◌∷◌}
 use Prim.Native.Nat.{ℕ}
 use lib.Dec.{eqb}
-use Rattle.mask.proofs.SearchLaws.{and-true-both}
+use Rattle.mask.proofs.SearchLaws.{and_true_both}
 use Rattle.mask.specs.First.{first_of}
 
 module _ {A : Type 0} where
@@ -49,16 +49,16 @@ module _ {A : Type 0} where
 
 -- ---- numbers, of which 0 says that none applies
 
-abbrev pub noneZero : List (Bool × ℕ) → Bool
-noneZero [] = true
-noneZero (row ∷ rows) = not (eqb row.1 0) && noneZero rows
+abbrev pub none_zero : List (Bool × ℕ) → Bool
+none_zero [] = true
+none_zero (row ∷ rows) = not (eqb row.1 0) && none_zero rows
 
-never-zero : (rows : List (Bool × ℕ)) → noneZero rows ≡ true → Never (λ (x : ℕ). x ≡ 0) rows
-never-zero [] h = tt
-never-zero ((b, x) ∷ rows) h =
-    let p = and-true-both (not (eqb x 0)) (noneZero rows) h in
-    (λ t z. false≢true (sym (ap (λ (y : ℕ). not (eqb y 0)) z) ∙ p.0), never-zero rows p.1)
+never_zero : (rows : List (Bool × ℕ)) → none_zero rows ≡ true → Never (λ (x : ℕ). x ≡ 0) rows
+never_zero [] h = tt
+never_zero ((b, x) ∷ rows) h =
+    let p = and_true_both (not (eqb x 0)) (none_zero rows) h in
+    (λ t z. false≢true (sym (ap (λ (y : ℕ). not (eqb y 0)) z) ∙ p.0), never_zero rows p.1)
 
 -- where the number given is 0, no test holds
-pub number_passed : (rows : List (Bool × ℕ)) → noneZero rows ≡ true → first_of 0 rows ≡ 0 → NoneHolds rows
-number_passed rows h e = first-passed (λ (x : ℕ). x ≡ 0) 0 rows (never-zero rows h) e
+pub number_passed : (rows : List (Bool × ℕ)) → none_zero rows ≡ true → first_of 0 rows ≡ 0 → NoneHolds rows
+number_passed rows h e = first-passed (λ (x : ℕ). x ≡ 0) 0 rows (never_zero rows h) e

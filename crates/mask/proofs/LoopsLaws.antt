@@ -14,9 +14,9 @@ use lib.Seq.{get_or-set_same, get_or-set_other}
 use borrow.Author.Count.{below_more}
 use borrow.Author.Tests.{lt-ltb, le-ltb, ltb-true, ltb-false, eq-eqb, ne_eqb}
 use Rattle.mask.specs.Search.{some, least}
-use Rattle.mask.proofs.SearchLaws.{lt-or-ge, some-but, some_same, some-none, some_more, least_by, least-none}
+use Rattle.mask.proofs.SearchLaws.{lt-or_ge, some_but, some_same, some-none, some_more, least_by, least-none}
 use Rattle.mask.specs.Mask.{has, mask_of}
-use Rattle.mask.proofs.BitsLaws.{has-zero, has-or, has-bit, ext}
+use Rattle.mask.proofs.BitsLaws.{has-zero, has-or, has_bit, ext}
 use lib.Bits.{bit_or, or_shifted_r}
 use Rattle.mask.specs.MaskInner.{Upto, named}
 
@@ -25,15 +25,15 @@ use Rattle.mask.specs.MaskInner.{Upto, named}
 pub record Sought (f : ℕ → Bool) (i : ℕ) (found : Bool) : Type 0 where
   pub is : found ≡ some i f
 
-pub sought-none : {f : ℕ → Bool} → Sought f 0 false
+pub sought_none : {f : ℕ → Bool} → Sought f 0 false
 unfolding some
-sought-none = record { is = refl }
+sought_none = record { is = refl }
 
-pub sought-more : {f : ℕ → Bool} {i : ℕ} {found : Bool} → Sought f i found → {b : Bool} → b ≡ f i → Sought f (i + 1) (b || found)
-sought-more {f} {i} h p = record { is = ap₂ ◌||◌ p h.is ∙ sym (some_more i f) }
+pub sought_more : {f : ℕ → Bool} {i : ℕ} {found : Bool} → Sought f i found → {b : Bool} → b ≡ f i → Sought f (i + 1) (b || found)
+sought_more {f} {i} h p = record { is = ap₂ ◌||◌ p h.is ∙ sym (some_more i f) }
 
-pub sought-all : {f : ℕ → Bool} {i n : ℕ} {found : Bool} → Sought f i found → i ≤ n → n ≤ i → found ≡ some n f
-sought-all {f} h l m = h.is ∙ ap (λ (k : ℕ). some k f) (le_antisymm l m)
+pub sought_all : {f : ℕ → Bool} {i n : ℕ} {found : Bool} → Sought f i found → i ≤ n → n ≤ i → found ≡ some n f
+sought_all {f} h l m = h.is ∙ ap (λ (k : ℕ). some k f) (le_antisymm l m)
 
 -- ---- a search for the first: f holds at no number below i
 
@@ -68,7 +68,7 @@ module _ (P : ℕ → ℕ → Type 0) (p : List ℕ) where
       }
 
   pub upto_all : (i : ℕ) (q : List ℕ) → Upto P p i q → length p ≤ i → ((x : ℕ) → length p ≤ x → get_or p x 0 ≡ 0 → P x (get_or p x 0)) → (x : ℕ) → P x (get_or q x 0)
-  upto_all i q u l out x = ⊎_elim (λ h. u.done x h) (λ h. subst (P x) (sym (u.rest x h)) (out x (le_trans l h) (get_or-eq_default p 0 (le_trans l h)))) (lt-or-ge x i)
+  upto_all i q u l out x = ⊎_elim (λ h. u.done x h) (λ h. subst (P x) (sym (u.rest x h)) (out x (le_trans l h) (get_or-eq_default p 0 (le_trans l h)))) (lt-or_ge x i)
 
 -- ---- a row of zeros, wherever it is read
 
@@ -85,8 +85,8 @@ Picked f i a = (s : ℕ) → has a s ≡ (ltb s i && f s)
 pub picked_none : (f : ℕ → Bool) → Picked f 0 0
 picked_none f s = has-zero s ∙ sym (ap (λ (b : Bool). b && f s) (le-ltb s 0 (omega arith)))
 
-pub picked-skip : (f : ℕ → Bool) (i a : ℕ) → Picked f i a → f i ≡ false → Picked f (i + 1) a
-picked-skip f i a h e s = h s ∙ pick (ltb s i) refl
+pub picked_skip : (f : ℕ → Bool) (i a : ℕ) → Picked f i a → f i ≡ false → Picked f (i + 1) a
+picked_skip f i a h e s = h s ∙ pick (ltb s i) refl
   where
     pick : (b : Bool) → ltb s i ≡ b → (ltb s i && f s) ≡ (ltb s (i + 1) && f s)
     pick true q = ap (λ (b : Bool). b && f s) (q ∙ sym (lt-ltb s (i + 1) (omega (arith, ltb-true s i q))))
@@ -95,8 +95,8 @@ picked-skip f i a h e s = h s ∙ pick (ltb s i) refl
         (λ l. sym (ap (λ (b : Bool). b && f s) (le-ltb s (i + 1) (omega arith))))
         (eq-or-lt_of_le (ltb-false s i q))
 
-pub picked-take : (f : ℕ → Bool) (i a b : ℕ) → Picked f i a → f i ≡ true → ((k : ℕ) → has b k ≡ (has a k || eqb k i)) → Picked f (i + 1) b
-picked-take f i a b h e w s = w s ∙ ap (λ (x : Bool). x || eqb s i) (h s) ∙ pick (ltb s i) refl
+pub picked_take : (f : ℕ → Bool) (i a b : ℕ) → Picked f i a → f i ≡ true → ((k : ℕ) → has b k ≡ (has a k || eqb k i)) → Picked f (i + 1) b
+picked_take f i a b h e w s = w s ∙ ap (λ (x : Bool). x || eqb s i) (h s) ∙ pick (ltb s i) refl
   where
     pick : (t : Bool) → ltb s i ≡ t → (ltb s i && f s || eqb s i) ≡ (ltb s (i + 1) && f s)
     pick true q =
@@ -110,40 +110,40 @@ picked-take f i a b h e w s = w s ∙ ap (λ (x : Bool). x || eqb s i) (h s) ∙
 pub picked_all : (f : ℕ → Bool) (n a : ℕ) → Picked f n a → (s : ℕ) → s < n → has a s ≡ f s
 picked_all f n a h s l = h s ∙ ap (λ (b : Bool). b && f s) (lt-ltb s n l)
 
-pub picked-every : (f : ℕ → Bool) (n a : ℕ) → Picked f n a → ((s : ℕ) → n ≤ s → f s ≡ false) → (s : ℕ) → has a s ≡ f s
-picked-every f n a h out s = ⊎_elim (picked_all f n a h s) (λ l. h s ∙ ap (λ (b : Bool). b && f s) (le-ltb s n l) ∙ sym (out s l)) (lt-or-ge s n)
+pub picked_every : (f : ℕ → Bool) (n a : ℕ) → Picked f n a → ((s : ℕ) → n ≤ s → f s ≡ false) → (s : ℕ) → has a s ≡ f s
+picked_every f n a h out s = ⊎_elim (picked_all f n a h s) (λ l. h s ∙ ap (λ (b : Bool). b && f s) (le-ltb s n l) ∙ sym (out s l)) (lt-or_ge s n)
 
 -- ---- a union, number by number: a has the members of the sets F x of the numbers x below i
 
 pub record United (F : ℕ → ℕ → Bool) (i a : ℕ) : Type 0 where
   pub members : (s : ℕ) → has a s ≡ some i (λ x. F x s)
 
-pub united-none : {F : ℕ → ℕ → Bool} → United F 0 0
+pub united_none : {F : ℕ → ℕ → Bool} → United F 0 0
 unfolding some
-united-none = record { members = has-zero }
+united_none = record { members = has-zero }
 
-pub united-more : {F : ℕ → ℕ → Bool} {i a : ℕ} → United F i a → (m : ℕ) → ((s : ℕ) → has m s ≡ F i s)
+pub united_more : {F : ℕ → ℕ → Bool} {i a : ℕ} → United F i a → (m : ℕ) → ((s : ℕ) → has m s ≡ F i s)
     → United F (i + 1) (bit_or m a)
-united-more {F} {i} {a} h m e =
+united_more {F} {i} {a} h m e =
     record { members = λ s. has-or m a s ∙ ap₂ ◌||◌ (e s) (h.members s) ∙ sym (some_more i (λ x. F x s)) }
 
-pub united-all : {F : ℕ → ℕ → Bool} {i a n : ℕ} → United F i a → i ≤ n → n ≤ i → (s : ℕ) → has a s ≡ some n (λ x. F x s)
-united-all {F} h l m s = h.members s ∙ ap (λ (k : ℕ). some k (λ x. F x s)) (le_antisymm l m)
+pub united_all : {F : ℕ → ℕ → Bool} {i a n : ℕ} → United F i a → i ≤ n → n ≤ i → (s : ℕ) → has a s ≡ some n (λ x. F x s)
+united_all {F} h l m s = h.members s ∙ ap (λ (k : ℕ). some k (λ x. F x s)) (le_antisymm l m)
 
 abbrev pub Gathering : List ℕ → ℕ → ℕ → ℕ → Type 0
 Gathering rows m left a = (s : ℕ) → (has a s || some 32 (named rows left s)) ≡ some 32 (named rows m s)
 
-pub gathering-start : (rows : List ℕ) (m : ℕ) → Gathering rows m m 0
-gathering-start rows m s = ap (λ (b : Bool). b || some 32 (named rows m s)) (has-zero s)
+pub gathering_start : (rows : List ℕ) (m : ℕ) → Gathering rows m m 0
+gathering_start rows m s = ap (λ (b : Bool). b || some 32 (named rows m s)) (has-zero s)
 
 apart : (a b c : Bool) → (a && b && c) ≡ (a && c && b)
 apart true b c = and_comm b c
 apart false b c = refl
 
-pub gathering-turn : (rows : List ℕ) (m left left' a x : ℕ) → x < 32 → has left x ≡ true
+pub gathering_turn : (rows : List ℕ) (m left left' a x : ℕ) → x < 32 → has left x ≡ true
     → ((k : ℕ) → has left' k ≡ (has left k && not (eqb k x)))
     → Gathering rows m left a → Gathering rows m left' (bit_or a (get_or rows x 0))
-gathering-turn rows m left left' a x l e w g s =
+gathering_turn rows m left left' a x l e w g s =
     ap (λ (b : Bool). b || some 32 (named rows left' s)) (has-or a (get_or rows x 0) s)
     ∙ or_assoc (has a s) (has (get_or rows x 0) s) (some 32 (named rows left' s))
     ∙ ap (λ (b : Bool). has a s || b) (sym split)
@@ -151,15 +151,15 @@ gathering-turn rows m left left' a x l e w g s =
   where
     split : some 32 (named rows left s) ≡ (has (get_or rows x 0) s || some 32 (named rows left' s))
     split =
-        some-but 32 (named rows left s) x l
+        some_but 32 (named rows left s) x l
         ∙ ap₂ (λ (b c : Bool). b && has (get_or rows x 0) s || c) e
         (some_same 32 (λ y. named rows left s y && not (eqb y x)) (named rows left' s)
         (λ y k.
         apart (has left y) (has (get_or rows y 0) s) (not (eqb y x))
         ∙ sym (ap (λ (b : Bool). b && has (get_or rows y 0) s) (w y))))
 
-pub gathering-end : (rows : List ℕ) (m a : ℕ) → Gathering rows m 0 a → (s : ℕ) → has a s ≡ some 32 (named rows m s)
-gathering-end rows m a g s =
+pub gathering_end : (rows : List ℕ) (m a : ℕ) → Gathering rows m 0 a → (s : ℕ) → has a s ≡ some 32 (named rows m s)
+gathering_end rows m a g s =
     sym (or-false (has a s))
     ∙ ap (λ (b : Bool). has a s || b)
     (sym (some-none 32 (named rows 0 s) (λ x l. ap (λ (b : Bool). b && has (get_or rows x 0) s) (has-zero x))))
@@ -167,10 +167,10 @@ gathering-end rows m a g s =
 
 -- ---- a mask by a test: `mask_of n f` is the only mask of n bits with these members
 
-pub maskOf-lt : (n : ℕ) (f : ℕ → Bool) → mask_of n f < 2 ^ n
+pub mask_of-lt : (n : ℕ) (f : ℕ → Bool) → mask_of n f < 2 ^ n
 unfolding mask_of
-maskOf-lt zero f = lit< tt
-maskOf-lt (suc n) f = pick (f n) (maskOf-lt n f)
+mask_of-lt zero f = lit< tt
+mask_of-lt (suc n) f = pick (f n) (mask_of-lt n f)
   where
     pick : (b : Bool) → mask_of n f < 2 ^ n → mask_of n f + cond b (2 ^ n) 0 < 2 ^ suc n
     pick true h = omega (arith, pow-suc 2 n)
@@ -179,14 +179,14 @@ maskOf-lt (suc n) f = pick (f n) (maskOf-lt n f)
 none : (a : ℕ) → a + 0 ≡ a
 none a = omega arith
 
-pub maskOf-picked : (n : ℕ) (f : ℕ → Bool) → Picked f n (mask_of n f)
+pub mask_of_picked : (n : ℕ) (f : ℕ → Bool) → Picked f n (mask_of n f)
 unfolding mask_of
-maskOf-picked zero f = picked_none f
-maskOf-picked (suc n) f = subst (λ (k : ℕ). Picked f k (mask_of n f + cond (f n) (2 ^ n) 0)) (add-one n) (pick (f n) refl (maskOf-picked n f))
+mask_of_picked zero f = picked_none f
+mask_of_picked (suc n) f = subst (λ (k : ℕ). Picked f k (mask_of n f + cond (f n) (2 ^ n) 0)) (add-one n) (pick (f n) refl (mask_of_picked n f))
   where
     pick : (b : Bool) → f n ≡ b → Picked f n (mask_of n f) → Picked f (n + 1) (mask_of n f + cond b (2 ^ n) 0)
-    pick true e h = picked-take f n (mask_of n f) (mask_of n f + 2 ^ n) h e (λ k. ap (λ (x : ℕ). has (mask_of n f + x) k) (sym (one-mul (2 ^ n))) ∙ ap (λ (x : ℕ). has x k) (add_comm (mask_of n f) (1 * 2 ^ n) ∙ sym (or_shifted_r 1 n (mask_of n f) (maskOf-lt n f))) ∙ has-or (mask_of n f) (1 * 2 ^ n) k ∙ ap (λ (b : Bool). has (mask_of n f) k || b) (ap (λ (x : ℕ). has x k) (one-mul (2 ^ n)) ∙ has-bit n k))
-    pick false e h = subst (Picked f (n + 1)) (sym (none (mask_of n f))) (picked-skip f n (mask_of n f) h e)
+    pick true e h = picked_take f n (mask_of n f) (mask_of n f + 2 ^ n) h e (λ k. ap (λ (x : ℕ). has (mask_of n f + x) k) (sym (one-mul (2 ^ n))) ∙ ap (λ (x : ℕ). has x k) (add_comm (mask_of n f) (1 * 2 ^ n) ∙ sym (or_shifted_r 1 n (mask_of n f) (mask_of-lt n f))) ∙ has-or (mask_of n f) (1 * 2 ^ n) k ∙ ap (λ (b : Bool). has (mask_of n f) k || b) (ap (λ (x : ℕ). has x k) (one-mul (2 ^ n)) ∙ has_bit n k))
+    pick false e h = subst (Picked f (n + 1)) (sym (none (mask_of n f))) (picked_skip f n (mask_of n f) h e)
 
-pub maskOf-unique : (n : ℕ) (f : ℕ → Bool) (m : ℕ) → m < 2 ^ n → ((i : ℕ) → i < n → has m i ≡ f i) → m ≡ mask_of n f
-maskOf-unique n f m l h = ext n m (mask_of n f) l (maskOf-lt n f) (λ i k. h i k ∙ sym (picked_all f n (mask_of n f) (maskOf-picked n f) i k))
+pub mask_of-unique : (n : ℕ) (f : ℕ → Bool) (m : ℕ) → m < 2 ^ n → ((i : ℕ) → i < n → has m i ≡ f i) → m ≡ mask_of n f
+mask_of-unique n f m l h = ext n m (mask_of n f) l (mask_of-lt n f) (λ i k. h i k ∙ sym (picked_all f n (mask_of n f) (mask_of_picked n f) i k))

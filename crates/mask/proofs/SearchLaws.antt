@@ -15,8 +15,8 @@ use Rattle.mask.specs.Search.{some, least, count}
 
 -- ---- tests
 
-pub lt-or-ge : (x i : ℕ) → (x < i) ⊎ (i ≤ x)
-lt-or-ge x i = pick (ltb x i) refl
+pub lt-or_ge : (x i : ℕ) → (x < i) ⊎ (i ≤ x)
+lt-or_ge x i = pick (ltb x i) refl
   where
     pick : (b : Bool) → ltb x i ≡ b → (x < i) ⊎ (i ≤ x)
     pick true e = inl (ltb-true x i e)
@@ -27,17 +27,17 @@ pub branch-free : (b x y : Bool) → ((b && x) || (not b && y)) ≡ cond b x y
 branch-free true x y = or-false x
 branch-free false x y = refl
 
-pub or-true-cases : (a b : Bool) → (a || b) ≡ true → (a ≡ true) ⊎ (b ≡ true)
-or-true-cases true b e = inl refl
-or-true-cases false b e = inr e
+pub or_true_cases : (a b : Bool) → (a || b) ≡ true → (a ≡ true) ⊎ (b ≡ true)
+or_true_cases true b e = inl refl
+or_true_cases false b e = inr e
 
-pub and-true-both : (a b : Bool) → (a && b) ≡ true → (a ≡ true) × (b ≡ true)
-and-true-both true b e = (refl, e)
-and-true-both false b e = absurd (false≢true e)
+pub and_true_both : (a b : Bool) → (a && b) ≡ true → (a ≡ true) × (b ≡ true)
+and_true_both true b e = (refl, e)
+and_true_both false b e = absurd (false≢true e)
 
-pub or-false-both : (a b : Bool) → (a || b) ≡ false → (a ≡ false) × (b ≡ false)
-or-false-both true b e = absurd (false≢true (sym e))
-or-false-both false b e = (refl, e)
+pub or_false_both : (a b : Bool) → (a || b) ≡ false → (a ≡ false) × (b ≡ false)
+or_false_both true b e = absurd (false≢true (sym e))
+or_false_both false b e = (refl, e)
 
 -- `b || b1 || .. || bn`, as it groups, and that none of them holds
 abbrev pub any_of : Bool → List Bool → Bool
@@ -49,8 +49,8 @@ NoneOf b [] = b ≡ false
 NoneOf b (c ∷ bs) = (b ≡ false) × NoneOf c bs
 
 none_first : (b c : Bool) (bs : List Bool) → NoneOf (b || c) bs → (b ≡ false) × NoneOf c bs
-none_first b c [] h = or-false-both b c h
-none_first b c (d ∷ bs) h = let p = or-false-both b c h.0 in (p.0, (p.1, h.1))
+none_first b c [] h = or_false_both b c h
+none_first b c (d ∷ bs) h = let p = or_false_both b c h.0 in (p.0, (p.1, h.1))
 
 pub none_of : (b : Bool) (bs : List Bool) → any_of b bs ≡ false → NoneOf b bs
 none_of b [] e = e
@@ -69,13 +69,13 @@ same_test false false f g = refl
 
 -- ---- somewhere below n
 
-pub some-intro : (n : ℕ) (f : ℕ → Bool) (i : ℕ) → i < n → f i ≡ true → some n f ≡ true
+pub some_intro : (n : ℕ) (f : ℕ → Bool) (i : ℕ) → i < n → f i ≡ true → some n f ≡ true
 unfolding some
-some-intro zero f i h e = absurd (not-suc-le-zero h)
-some-intro (suc n) f i h e =
+some_intro zero f i h e = absurd (not-suc-le-zero h)
+some_intro (suc n) f i h e =
     ⊎_elim
     (λ q. ap (λ (b : Bool). b || some n f) (subst (λ (k : ℕ). f k ≡ true) q e))
-    (λ l. ap (λ (b : Bool). f n || b) (some-intro n f i l e) ∙ or-true (f n))
+    (λ l. ap (λ (b : Bool). f n || b) (some_intro n f i l e) ∙ or-true (f n))
     (eq-or-lt_of_le (le_of_suc-le-suc h))
 
 -- where it holds
@@ -101,11 +101,11 @@ some-none zero f h = refl
 some-none (suc n) f h =
     ap₂ ◌||◌ (h n (le_refl (suc n))) (some-none n f (λ i l. h i (le_trans l (le-suc n))))
 
-pub some-false : (n : ℕ) (f : ℕ → Bool) → some n f ≡ false → (i : ℕ) → i < n → f i ≡ false
-some-false n f e i l = pick (f i) refl
+pub some_false : (n : ℕ) (f : ℕ → Bool) → some n f ≡ false → (i : ℕ) → i < n → f i ≡ false
+some_false n f e i l = pick (f i) refl
   where
     pick : (b : Bool) → f i ≡ b → f i ≡ false
-    pick true q = absurd (false≢true (sym e ∙ some-intro n f i l q))
+    pick true q = absurd (false≢true (sym e ∙ some_intro n f i l q))
     pick false q = q
 
 -- two searches that find the same
@@ -114,7 +114,7 @@ pub some-iff : (n : ℕ) (f g : ℕ → Bool)
 some-iff n f g there back = same_test (some n f) (some n g) (half f g there) (half g f back)
   where
     half : (f g : ℕ → Bool) → ((i : ℕ) → i < n → f i ≡ true → g i ≡ true) → some n f ≡ true → some n g ≡ true
-    half f g h e = let w : Found n f = some-elim n f e in some-intro n g w.at w.lt (h w.at w.lt w.is)
+    half f g h e = let w : Found n f = some-elim n f e in some_intro n g w.at w.lt (h w.at w.lt w.is)
 
 pub some_same : (n : ℕ) (f g : ℕ → Bool) → ((i : ℕ) → i < n → f i ≡ g i) → some n f ≡ some n g
 some_same n f g h = some-iff n f g (λ i l e. sym (h i l) ∙ e) (λ i l e. h i l ∙ e)
@@ -132,12 +132,12 @@ some-cut N n f g l same rest = same_test (some N f) (some n g) there back
     there : some N f ≡ true → some n g ≡ true
     there e =
         let x = some-elim N f e in
-        ⊎_elim (λ h. some-intro n g x.at h (sym (same x.at h) ∙ x.is))
+        ⊎_elim (λ h. some_intro n g x.at h (sym (same x.at h) ∙ x.is))
         (λ h. absurd (false≢true (sym (rest x.at h x.lt) ∙ x.is)))
-        (lt-or-ge x.at n)
+        (lt-or_ge x.at n)
 
     back : some n g ≡ true → some N f ≡ true
-    back e = let x = some-elim n g e in some-intro N f x.at (le_trans x.lt l) (same x.at x.lt ∙ x.is)
+    back e = let x = some-elim n g e in some_intro N f x.at (le_trans x.lt l) (same x.at x.lt ∙ x.is)
 
 -- of the numbers below N, those below n
 pub some_below : (N n : ℕ) (f : ℕ → Bool) → n ≤ N → some N (λ i. f i && ltb i n) ≡ some n f
@@ -146,8 +146,8 @@ some_below N n f l =
     (λ j h g. ap (λ (b : Bool). f j && b) (le-ltb j n h) ∙ and-false (f j))
 
 -- one number apart from the rest
-pub some-but : (n : ℕ) (f : ℕ → Bool) (x : ℕ) → x < n → some n f ≡ (f x || some n (λ y. f y && not (eqb y x)))
-some-but n f x l = same_test (some n f) (f x || some n (λ y. f y && not (eqb y x))) there back
+pub some_but : (n : ℕ) (f : ℕ → Bool) (x : ℕ) → x < n → some n f ≡ (f x || some n (λ y. f y && not (eqb y x)))
+some_but n f x l = same_test (some n f) (f x || some n (λ y. f y && not (eqb y x))) there back
   where
     there : some n f ≡ true → (f x || some n (λ y. f y && not (eqb y x))) ≡ true
     there e =
@@ -156,18 +156,18 @@ some-but n f x l = same_test (some n f) (f x || some n (λ y. f y && not (eqb y 
           | yes z ↦ ap (λ (b : Bool). b || some n (λ y. f y && not (eqb y x))) (subst (λ (k : ℕ). f k ≡ true) z w.is)
           | no z ↦
               ap (λ (b : Bool). f x || b)
-              (some-intro n (λ y. f y && not (eqb y x)) w.at w.lt
+              (some_intro n (λ y. f y && not (eqb y x)) w.at w.lt
               (ap₂ (λ (a b : Bool). a && not b) w.is (ne_eqb w.at x z)))
               ∙ or-true (f x)
         ]
 
     back : (f x || some n (λ y. f y && not (eqb y x))) ≡ true → some n f ≡ true
     back e =
-        ⊎_elim (some-intro n f x l)
+        ⊎_elim (some_intro n f x l)
         (λ h.
         let w : Found n (λ y. f y && not (eqb y x)) = some-elim n (λ y. f y && not (eqb y x)) h in
-        some-intro n f w.at w.lt (and-true-both (f w.at) (not (eqb w.at x)) w.is).0)
-        (or-true-cases (f x) (some n (λ y. f y && not (eqb y x))) e)
+        some_intro n f w.at w.lt (and_true_both (f w.at) (not (eqb w.at x)) w.is).0)
+        (or_true_cases (f x) (some n (λ y. f y && not (eqb y x))) e)
 
 -- ---- the least
 
@@ -205,7 +205,7 @@ least-unique {n} {f} {r} {s} a b = le_antisymm (at_most a b) (at_most b a)
         ⊎_elim
         (λ l. absurd (false≢true (sym (a.first s l) ∙ b.is (le_trans l a.bound))))
         (λ l. l)
-        (lt-or-ge s r)
+        (lt-or_ge s r)
 
 pub least_by : (n : ℕ) (f : ℕ → Bool) (r : ℕ) → Least n f r → r ≡ least n f
 least_by n f r d = least-unique d (least-is n f)
@@ -229,14 +229,14 @@ least-same n f g h =
 -- ---- how many
 
 -- what one number counts
-abbrev pub oneIf : Bool → ℕ
-oneIf b = cond b 1 0
+abbrev pub one_if : Bool → ℕ
+one_if b = cond b 1 0
 
 pub count_same : (n : ℕ) (f g : ℕ → Bool) → ((k : ℕ) → k < n → g k ≡ f k) → count n g ≡ count n f
 unfolding count
 count_same zero f g h = refl
 count_same (suc n) f g h =
-    ap₂ (λ (x : ℕ) (b : Bool). x + oneIf b) (count_same n f g (λ k l. h k (le_trans l (le-suc n)))) (h n (le_refl (suc n)))
+    ap₂ (λ (x : ℕ) (b : Bool). x + one_if b) (count_same n f g (λ k l. h k (le_trans l (le-suc n)))) (h n (le_refl (suc n)))
 
 -- one number fewer
 pub count-drop : (n : ℕ) (f g : ℕ → Bool) (i : ℕ) → i < n → f i ≡ true → ((k : ℕ) → g k ≡ (f k && not (eqb k i)))
@@ -265,12 +265,12 @@ unfolding count
 count-max zero f = le_refl 0
 count-max (suc n) f = omega (arith, count-max n f, pick (f n))
   where
-    pick : (b : Bool) → oneIf b ≤ 1
+    pick : (b : Bool) → one_if b ≤ 1
     pick true = le_refl 1
     pick false = omega arith
 
-one-le : (a b : Bool) → (a ≡ true → b ≡ true) → oneIf a ≤ oneIf b
-one-le true b q = subst (λ (c : Bool). 1 ≤ oneIf c) (sym (q refl)) (le_refl 1)
+one-le : (a b : Bool) → (a ≡ true → b ≡ true) → one_if a ≤ one_if b
+one-le true b q = subst (λ (c : Bool). 1 ≤ one_if c) (sym (q refl)) (le_refl 1)
 one-le false b q = omega arith
 
 pub count-le : (n : ℕ) (f g : ℕ → Bool) → ((k : ℕ) → f k ≡ true → g k ≡ true) → count n f ≤ count n g

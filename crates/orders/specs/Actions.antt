@@ -19,22 +19,22 @@ pub record Actions (k : ℕ) : Type 0 where
   pub value : ℕ → Cells → ℕ → ℤ
   -- the tests hold and some right side is out of range
   pub faults : ℕ → Cells → Bool
-  pub goesBefore : ℕ → ℕ → Bool
+  pub goes_before : ℕ → ℕ → Bool
   pub stores-local : (r : ℕ) (c d : Cells) → r < n → EqualOn k (reads r) c d → stores r c ≡ stores r d
   pub value-local : (r : ℕ) (c d : Cells) (x : ℕ) → r < n → x < k → EqualOn k (reads r) c d → So (writes r x)
       → value r c x ≡ value r d x
   pub faults-local : (r : ℕ) (c d : Cells) → r < n → EqualOn k (reads r) c d → faults r c ≡ faults r d
 
 module _ (k : ℕ) (A : Actions k) where
-  open A use {n, watches, reads, writes, stores, value, faults, goesBefore, stores-local}
+  open A use {n, watches, reads, writes, stores, value, faults, goes_before, stores-local}
   open A use {value-local, faults-local}
 
   -- "all targets are stored together", or "no cell changes"
   unfoldable pub stored : ℕ → Cells → Cells
   stored r c x = cond (stores r c && writes r x) (value r c x) (c x)
 
-  abbrev pub actionBodies : Bodies k
-  actionBodies =
+  abbrev pub action_bodies : Bodies k
+  action_bodies =
       record {
         n = n;
         watches = watches;
@@ -44,12 +44,12 @@ module _ (k : ℕ) (A : Actions k) where
         Mark = Bool;
         -- "r gets a fault mark", and keeps one that it has
         mark = λ r c m. m || faults r c;
-        goesBefore = goesBefore;
+        goes_before = goes_before;
       }
 
-  pub actionFacts : BodyFacts k actionBodies
+  pub action_facts : BodyFacts k action_bodies
   unfolding stored
-  actionFacts =
+  action_facts =
       record {
         unwritten = λ r c x l lx h.
             cond-off _ _ (stores r c && writes r x)

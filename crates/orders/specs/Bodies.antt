@@ -20,7 +20,7 @@ pub record Bodies (k : ℕ) : Type 1 where
   -- the rule's fault mark after its action, by the amounts and the mark before
   pub Mark : Type 0
   pub mark : ℕ → Cells → Mark → Mark
-  pub goesBefore : ℕ → ℕ → Bool
+  pub goes_before : ℕ → ℕ → Bool
 
 pub record State (k : ℕ) (E : Memory k) (B : Bodies k) : Type 0 where
   pub cells : Cells
@@ -29,7 +29,7 @@ pub record State (k : ℕ) (E : Memory k) (B : Bodies k) : Type 0 where
 
 -- ── the facts asked ──
 module _ (k : ℕ) (B : Bodies k) where
-  open B use {n, watches, reads, writes, body, Mark, mark, goesBefore}
+  open B use {n, watches, reads, writes, body, Mark, mark, goes_before}
 
   -- of bodies
   pub record BodyFacts : Type 0 where
@@ -44,21 +44,21 @@ module _ (k : ℕ) (B : Bodies k) where
 
   -- of priorities: a strict order
   pub record Priorities : Type 0 where
-    pub irreflexive : (r : ℕ) → r < n → So (goesBefore r r) → ⊥
-    pub transitive : (r s t : ℕ) → r < n → s < n → t < n → So (goesBefore r s) → So (goesBefore s t)
-        → So (goesBefore r t)
+    pub irreflexive : (r : ℕ) → r < n → So (goes_before r r) → ⊥
+    pub transitive : (r s t : ℕ) → r < n → s < n → t < n → So (goes_before r s) → So (goes_before s t)
+        → So (goes_before r t)
 
   -- of an analysis: it judges by the sets of watched, read and written cells, and need not be exact
   pub record Analysis : Type 0 where
-    pub mayTrigger : ℕ → ℕ → Bool
+    pub may_trigger : ℕ → ℕ → Bool
     pub commute : ℕ → ℕ → Bool
     pub weight : ℕ → ℕ
     pub triggers : (r s x : ℕ) → r < n → s < n → x < k → So (writes r x) → So (watches s x)
-        → So (mayTrigger r s)
-    pub weighs : Weighs n mayTrigger weight
-    pub commute-symmetric : (r s : ℕ) → r < n → s < n → So (commute r s) → So (commute s r)
+        → So (may_trigger r s)
+    pub weighs : Weighs n may_trigger weight
+    pub commute_symmetric : (r s : ℕ) → r < n → s < n → So (commute r s) → So (commute s r)
     -- two different rules that commute
-    pub commute-quiet : (r s : ℕ) → r < n → s < n → r ≢ s → So (commute r s) → So (mayTrigger r s) → ⊥
+    pub commute-quiet : (r s : ℕ) → r < n → s < n → r ≢ s → So (commute r s) → So (may_trigger r s) → ⊥
     pub commute-reads : (r s x : ℕ) → r < n → s < n → x < k → r ≢ s → So (commute r s)
         → So (writes r x) → So (reads s x) → ⊥
     pub commute-writes : (r s x : ℕ) → r < n → s < n → x < k → r ≢ s → So (commute r s)
@@ -67,7 +67,7 @@ module _ (k : ℕ) (B : Bodies k) where
 -- ── the machine ──
 module _ (k : ℕ) (E : Memory k) (B : Bodies k) where
   open E use {wakeful, rest, moved, alike}
-  open B use {n, watches, body, mark, goesBefore}
+  open B use {n, watches, body, mark, goes_before}
 
   abbrev pub waits : State k E B → ℕ → Bool
   waits S r = wakeful (watches r) (S.kept r) S.cells
@@ -97,7 +97,7 @@ module _ (k : ℕ) (E : Memory k) (B : Bodies k) where
         State = State k E B;
         waits = waits;
         step = step;
-        goesBefore = goesBefore;
-        goesBefore-irreflexive = P.irreflexive;
-        goesBefore-transitive = P.transitive;
+        goes_before = goes_before;
+        goes_before-irreflexive = P.irreflexive;
+        goes_before-transitive = P.transitive;
       }

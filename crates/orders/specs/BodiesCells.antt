@@ -10,28 +10,28 @@ use Rattle.orders.specs.Bodies.{Bodies, BodyFacts, Analysis}
 
 -- a rule that r may not trigger watches no cell that r changes
 pub quiet-on : (k : ℕ) (B : Bodies k) (F : BodyFacts k B) (N : Analysis k B) (r s : ℕ) (c : Cells)
-    → r < B.n → s < B.n → (So (N.mayTrigger r s) → ⊥) → EqualOn k (B.watches s) (B.body r c) c
+    → r < B.n → s < B.n → (So (N.may_trigger r s) → ⊥) → EqualOn k (B.watches s) (B.body r c) c
 quiet-on k B F N r s c lr ls t x lx i = F.unwritten r c x lr lx (λ w. t (N.triggers r s x lr ls lx w i))
 
 module _ (k : ℕ) (B : Bodies k) (F : BodyFacts k B) (N : Analysis k B) where
   open B use {n, watches, reads, writes, body}
   open F use {unwritten, local}
-  open N use {commute, commute-symmetric, commute-quiet, commute-reads, commute-writes}
+  open N use {commute, commute_symmetric, commute-quiet, commute-reads, commute-writes}
 
   -- two different rules that commute
   pub record Commuting (r s : ℕ) : Type 0 where
-    pub r-below : r < n
+    pub r_below : r < n
     pub s-below : s < n
     pub differ : r ≢ s
     pub commutes : So (commute r s)
 
-  pub commuting-flip : (r s : ℕ) → Commuting r s → Commuting s r
-  commuting-flip r s h =
+  pub commuting_flip : (r s : ℕ) → Commuting r s → Commuting s r
+  commuting_flip r s h =
       record {
-        r-below = h.s-below;
+        r_below = h.s-below;
         s-below = h.r-below;
         differ = Ne·symm h.differ;
-        commutes = commute-symmetric r s h.r-below h.s-below h.commutes;
+        commutes = commute_symmetric r s h.r-below h.s-below h.commutes;
       }
 
   -- s reads the same before and after r
@@ -62,7 +62,7 @@ module _ (k : ℕ) (B : Bodies k) (F : BodyFacts k B) (N : Analysis k B) where
       go : Dec (So (writes r x)) → body r (body s c) x ≡ body s (body r c) x
       go (yes w) =
           let nw = writes_apart r s h x lx w in
-          past s r (commuting-flip r s h) c x lx nw ∙ sym (unwritten s (body r c) x h.s-below lx nw)
+          past s r (commuting_flip r s h) c x lx nw ∙ sym (unwritten s (body r c) x h.s-below lx nw)
       go (no nw) = unwritten r (body s c) x h.r-below lx nw ∙ sym (past r s h c x lx nw)
 
   -- each cell is changed by at most one of the two
@@ -73,5 +73,5 @@ module _ (k : ℕ) (B : Bodies k) (F : BodyFacts k B) (N : Analysis k B) where
       go : Dec (So (writes r x)) → OneOf c (body r c) (body s c) (body r (body s c)) x
       go (yes w) =
           let nw = writes_apart r s h x lx w in
-          inr (unwritten s c x h.s-below lx nw, past s r (commuting-flip r s h) c x lx nw)
+          inr (unwritten s c x h.s-below lx nw, past s r (commuting_flip r s h) c x lx nw)
       go (no nw) = inl (unwritten r c x h.r-below lx nw, unwritten r (body s c) x h.r-below lx nw)

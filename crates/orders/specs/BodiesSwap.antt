@@ -8,7 +8,7 @@ use Rattle.orders.specs.Overwritten.{put, put_same, put_other, put-swap}
 use Rattle.orders.specs.Cells.{Cells}
 use Rattle.orders.specs.Kept.{Memory}
 use Rattle.orders.specs.Bodies.{Bodies, State, BodyFacts, Analysis, step, Same}
-use Rattle.orders.specs.BodiesCells.{Commuting, commuting-flip, reads-free, watches-free, cells-swap, by_one}
+use Rattle.orders.specs.BodiesCells.{Commuting, commuting_flip, reads-free, watches-free, cells-swap, by_one}
 
 module _ (k : ℕ) (E : Memory k) (B : Bodies k) where
   open E use {rest, moved}
@@ -37,7 +37,7 @@ module _ (k : ℕ) (E : Memory k) (B : Bodies k) (F : BodyFacts k B) (N : Analys
       (moved (watches r) (moved (watches r) (rest c) c (body r c)) (body r c) (body s (body r c)))
   own-swap r s h c =
       let a = watches r in
-      let h' = commuting-flip k B F N r s h in
+      let h' = commuting_flip k B F N r s h in
       let q = watches-free k B F N s r h' c in
       let p = watches-free k B F N s r h' (body r c) in
       (alike_is a).trans _ _ _
@@ -92,7 +92,7 @@ module _ (k : ℕ) (E : Memory k) (B : Bodies k) (F : BodyFacts k B) (N : Analys
         go : Dec (t ≡ r) → Dec (t ≡ s) → alike a ((after r s).kept t) ((after s r).kept t)
         go (yes e) (yes f) = absurd (h.differ (sym e ∙ f))
         go (yes e) (no f) = own r s h e f
-        go (no e) (yes f) = (alike_is a).symm _ _ (own s r (commuting-flip k B F N r s h) f e)
+        go (no e) (yes f) = (alike_is a).symm _ _ (own s r (commuting_flip k B F N r s h) f e)
         go (no e) (no f) = rw (out r s e f, out s r f e) (other-swap r s h c a (S.kept t))
 
     -- the mark that x gets after y is the one that it gets before y
@@ -100,14 +100,14 @@ module _ (k : ℕ) (E : Memory k) (B : Bodies k) (F : BodyFacts k B) (N : Analys
         → mark x (body y c) ((step k E B y S).marks x) ≡ mark x c (S.marks x)
     mark-after x y g =
         F.mark-local x (body y c) c ((step k E B y S).marks x) g.r-below
-        (reads-free k B F N y x (commuting-flip k B F N x y g) c)
+        (reads-free k B F N y x (commuting_flip k B F N x y g) c)
         ∙ ap (mark x c) (put_other S.marks y (mark y c (S.marks y)) x g.differ)
 
     marks-swap : (t : ℕ) → (step k E B r (step k E B s S)).marks t ≡ (step k E B s (step k E B r S)).marks t
     marks-swap t =
         ap (λ m. put (step k E B s S).marks r m t) (mark-after r s h)
         ∙ put-swap S.marks r s (mark r c (S.marks r)) (mark s c (S.marks s)) t h.differ
-        ∙ ap (λ m. put (step k E B r S).marks s m t) (sym (mark-after s r (commuting-flip k B F N r s h)))
+        ∙ ap (λ m. put (step k E B r S).marks s m t) (sym (mark-after s r (commuting_flip k B F N r s h)))
 
     pub step-swap : Same k E B (step k E B r (step k E B s S)) (step k E B s (step k E B r S))
     step-swap =

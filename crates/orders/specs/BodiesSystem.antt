@@ -6,15 +6,15 @@ use Rattle.std.proofs.Math.Logic.{Ne·symm, Equivalence}
 use Rattle.std.proofs.Math.Bool.{So, Bool-discrete}
 use Rattle.std.proofs.Math.Decide.{ℕ_discrete}
 use Rattle.orders.specs.Overwritten.{put, put_same, put_other}
-use Rattle.orders.specs.System.{System, weighs⇒no-self-trigger}
-use Rattle.orders.specs.Cells.{Cells, EqualOn, equalOn-sym}
+use Rattle.orders.specs.System.{System, weighs⇒no_self_trigger}
+use Rattle.orders.specs.Cells.{Cells, EqualOn, equal_on_sym}
 use Rattle.orders.specs.Kept.{Memory}
 use Rattle.orders.specs.Bodies.{Bodies, State, BodyFacts, Priorities, Analysis, waits, step, Same, runner}
 use Rattle.orders.specs.BodiesCells.{quiet-on}
 use Rattle.orders.specs.BodiesSwap.{kept-own, kept-other, step-swap}
 
 module _ (k : ℕ) (E : Memory k) (B : Bodies k) where
-  open E use {rest, alike, alike_is, wakeful-alike, rest-alike, rest-sleeps}
+  open E use {rest, alike, alike_is, wakeful-alike, rest-alike, rest_sleeps}
   open E use {moved, moved-alike, moved-still}
   open B use {n, watches, reads, body, mark}
 
@@ -81,26 +81,26 @@ module _ (k : ℕ) (E : Memory k) (B : Bodies k) where
 
     -- ── who waits ──
     module _ (N : Analysis k B) where
-      open N use {mayTrigger}
+      open N use {may_trigger}
 
       -- a rule that r may not trigger keeps what it kept
-      still : (r s : ℕ) (S : State k E B) → r < n → s < n → r ≢ s → (So (mayTrigger r s) → ⊥)
+      still : (r s : ℕ) (S : State k E B) → r < n → s < n → r ≢ s → (So (may_trigger r s) → ⊥)
           → alike (watches s) ((step k E B r S).kept s) (S.kept s)
       still r s S lr ls ne t =
           rw (kept-other k E B r s S (Ne·symm ne))
           (moved-still (watches s) (S.kept s) S.cells (body r S.cells)
           (quiet-on k B F N r s S.cells lr ls t))
 
-      pub step_keeps : (r s : ℕ) (S : State k E B) → r < n → s < n → r ≢ s → (So (mayTrigger r s) → ⊥)
+      pub step_keeps : (r s : ℕ) (S : State k E B) → r < n → s < n → r ≢ s → (So (may_trigger r s) → ⊥)
           → So (waits k E B S s) → So (waits k E B (step k E B r S) s)
       step_keeps r s S lr ls ne t w =
           wakeful-alike (watches s) (S.kept s) ((step k E B r S).kept s) S.cells (body r S.cells)
           ((alike_is (watches s)).symm _ _ (still r s S lr ls ne t))
-          (equalOn-sym k (watches s) _ _ (quiet-on k B F N r s S.cells lr ls t)) w
+          (equal_on_sym k (watches s) _ _ (quiet-on k B F N r s S.cells lr ls t)) w
 
       pub step-wakes : (r s : ℕ) (S : State k E B) → r < n → s < n → So (waits k E B (step k E B r S) s)
-          → ((r ≢ s) × So (waits k E B S s)) ⊎ So (mayTrigger r s)
-      step-wakes r s S lr ls w = go (Bool-discrete (mayTrigger r s) true) (ℕ_discrete s r)
+          → ((r ≢ s) × So (waits k E B S s)) ⊎ So (may_trigger r s)
+      step-wakes r s S lr ls w = go (Bool-discrete (may_trigger r s) true) (ℕ_discrete s r)
         where
           c : Cells
           c = S.cells
@@ -109,14 +109,14 @@ module _ (k : ℕ) (E : Memory k) (B : Bodies k) where
               → alike (watches s) ((step k E B r S).kept s) (rest c)
           own e m = rw (kept-own k E B r s S e) m
 
-          go : Dec (So (mayTrigger r s)) → Dec (s ≡ r)
-              → ((r ≢ s) × So (waits k E B S s)) ⊎ So (mayTrigger r s)
+          go : Dec (So (may_trigger r s)) → Dec (s ≡ r)
+              → ((r ≢ s) × So (waits k E B S s)) ⊎ So (may_trigger r s)
           go (yes t) d = inr t
           go (no t) (yes e) =
               let q = quiet-on k B F N r s c lr ls t in
               let m = own e (moved-still (watches s) (rest c) c (body r c) q) in
               let w' = wakeful-alike (watches s) ((step k E B r S).kept s) (rest c) (body r c) c m q w in
-              absurd (rest-sleeps (watches s) c w')
+              absurd (rest_sleeps (watches s) c w')
           go (no t) (no e) =
               let q = quiet-on k B F N r s c lr ls t in
               let ne : r ≢ s = Ne·symm e in
@@ -124,20 +124,20 @@ module _ (k : ℕ) (E : Memory k) (B : Bodies k) where
               inl (ne, wakeful-alike (watches s) ((step k E B r S).kept s) (S.kept s) (body r c) c m q w)
 
       -- neither do two rules that commute trigger one another, nor a rule itself
-      pub commuting-quiet : (r s : ℕ) → r < n → s < n → So (N.commute r s) → So (mayTrigger r s) → ⊥
+      pub commuting-quiet : (r s : ℕ) → r < n → s < n → So (N.commute r s) → So (may_trigger r s) → ⊥
       commuting-quiet r s lr ls c t = go (ℕ_discrete r s)
         where
           go : Dec (r ≡ s) → ⊥
           go (yes e) =
-              weighs⇒no-self-trigger n mayTrigger N.weight N.weighs r lr
-              (subst (λ z. So (mayTrigger r z)) (sym e) t)
+              weighs⇒no_self_trigger n may_trigger N.weight N.weighs r lr
+              (subst (λ z. So (may_trigger r z)) (sym e) t)
           go (no ne) = N.commute-quiet r s lr ls ne c t
 
       abbrev pub system : Priorities k B → System
       system P =
           record {
             runner = runner k E B P;
-            mayTrigger = N.mayTrigger;
+            may_trigger = N.may_trigger;
             commute = N.commute;
             weight = N.weight;
             same = Same k E B;
@@ -147,10 +147,10 @@ module _ (k : ℕ) (E : Memory k) (B : Bodies k) where
                 (λ x lx i. q.cells_same x lx) w;
             same_step = λ S T q r l w. step_same r S T l q;
             weighs = N.weighs;
-            commute-symmetric = N.commute-symmetric;
+            commute_symmetric = N.commute-symmetric;
             commute-quiet = commuting-quiet;
             keeps = λ r s S lr ls w ne t x. step_keeps r s S lr ls ne t x;
             wakes = λ r s S lr ls w x. step-wakes r s S lr ls x;
             swaps = λ r s S lr ls ne c x y.
-                step-swap k E B F N r s (record { r-below = lr; s-below = ls; differ = ne; commutes = c }) S;
+                step-swap k E B F N r s (record { r_below = lr; s-below = ls; differ = ne; commutes = c }) S;
           }

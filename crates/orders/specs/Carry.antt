@@ -33,8 +33,8 @@ pub record Carries (A B : Runner) (m : ℕ → Option ℕ) (Rel : A.State → B.
       → (r' < B.n) × So (B.waits T r')
   -- what waits there and goes before the image answers to something that waits here and goes before the rule
   pub blocked : (r r' s' : ℕ) (S : A.State) (T : B.State) → Rel S T → r < A.n → m r ≡ some r'
-      → s' < B.n → So (B.waits T s') → So (B.goesBefore s' r')
-      → (s : ℕ) × (s < A.n) × So (A.waits S s) × So (A.goesBefore s r)
+      → s' < B.n → So (B.waits T s') → So (B.goes_before s' r')
+      → (s : ℕ) × (s < A.n) × So (A.waits S s) × So (A.goes_before s r)
   -- what waits there answers to something that waits here
   pub awake : (r' : ℕ) (S : A.State) (T : B.State) → Rel S T → r' < B.n → So (B.waits T r')
       → (r : ℕ) × (r < A.n) × So (A.waits S r)

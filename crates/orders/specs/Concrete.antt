@@ -8,14 +8,14 @@ use Rattle.std.proofs.Math.Bool.{So}
 use Rattle.orders.specs.Finite.{sum}
 use Rattle.orders.specs.Overwritten.{put_in, put-out}
 use Rattle.orders.specs.Runner.{Runner, Eligible, exec, Runs, Ended}
-use Rattle.orders.specs.System.{System, stepBound}
-use Rattle.orders.specs.Confluence.{UniqueEnds, PairsPass, passes⇒uniqueEnds}
+use Rattle.orders.specs.System.{System, step_bound}
+use Rattle.orders.specs.Confluence.{UniqueEnds, PairsPass, passes⇒unique_ends}
 use Rattle.orders.specs.View.{Viewed, viewed-short, viewed-on, viewed-unique-ends}
 use Rattle.orders.specs.Cells.{Cells, changed}
-use Rattle.orders.specs.Kept.{waitingBit}
+use Rattle.orders.specs.Kept.{waiting_bit}
 use Rattle.orders.specs.Bodies.{Priorities, Analysis}
 use Rattle.orders.specs.BodiesSystem.{system}
-use Rattle.orders.specs.Actions.{Actions, stored, actionBodies, actionFacts}
+use Rattle.orders.specs.Actions.{Actions, stored, action_bodies, action_facts}
 
 -- The paper's step, as it is seen in a state that fits when an eligible rule is stepped.
 pub record Concrete (k : ℕ) (A : Actions k) (𝓡 : Runner) : Type 1 where
@@ -23,7 +23,7 @@ pub record Concrete (k : ℕ) (A : Actions k) (𝓡 : Runner) : Type 1 where
   pub cell : 𝓡.State → Cells
   pub fault : 𝓡.State → ℕ → Bool
   pub n-is : 𝓡.n ≡ A.n
-  pub goesBefore-is : (s r : ℕ) → s < 𝓡.n → r < 𝓡.n → 𝓡.goesBefore s r ≡ A.goesBefore s r
+  pub goes_before-is : (s r : ℕ) → s < 𝓡.n → r < 𝓡.n → 𝓡.goes_before s r ≡ A.goes_before s r
   pub step_fits : (r : ℕ) (S : 𝓡.State) → fit S → Eligible 𝓡 r S → fit (𝓡.step r S)
   -- "all targets are stored together", or "no cell changes"
   pub cell-step : (r : ℕ) (S : 𝓡.State) → fit S → Eligible 𝓡 r S → (x : ℕ) → x < k
@@ -37,38 +37,38 @@ pub record Concrete (k : ℕ) (A : Actions k) (𝓡 : Runner) : Type 1 where
       ≡ ((𝓡.waits S t && not (eqb t r)) || changed k (A.watches t) (cell S) (stored k A r (cell S)))
 
 module _ (k : ℕ) (A : Actions k) (𝓡 : Runner) (C : Concrete k A 𝓡) where
-  open C use {fit, cell, fault, n-is, goesBefore-is, step_fits, cell-step, fault-step, waits-step}
+  open C use {fit, cell, fault, n-is, goes_before-is, step_fits, cell-step, fault-step, waits-step}
 
   down : (r : ℕ) → r < A.n → r < 𝓡.n
   down r l = subst (λ m. r < m) (sym n-is) l
 
-  before-down : (s r : ℕ) → s < A.n → r < A.n → So (A.goesBefore s r) → So (𝓡.goesBefore s r)
-  before-down s r ls lr b = goesBefore-is s r (down s ls) (down r lr) ∙ b
+  before-down : (s r : ℕ) → s < A.n → r < A.n → So (A.goes_before s r) → So (𝓡.goes_before s r)
+  before-down s r ls lr b = goes_before-is s r (down s ls) (down r lr) ∙ b
 
-  pub priorities : Priorities k (actionBodies k A)
+  pub priorities : Priorities k (action_bodies k A)
   priorities =
       record {
         irreflexive = λ r l b. 𝓡.goesBefore-irreflexive r (down r l) (before-down r r l l b);
         transitive = λ r s t lr ls lt a b.
-            sym (goesBefore-is r t (down r lr) (down t lt))
+            sym (goes_before-is r t (down r lr) (down t lt))
             ∙ 𝓡.goesBefore-transitive r s t (down r lr) (down s ls) (down t lt)
             (before-down r s lr ls a) (before-down s t ls lt b);
       }
 
-  module _ (N : Analysis k (actionBodies k A)) where
+  module _ (N : Analysis k (action_bodies k A)) where
     abbrev pub machine : System
-    machine = system k (waitingBit k) (actionBodies k A) (actionFacts k A) N priorities
+    machine = system k (waiting_bit k) (action_bodies k A) (action_facts k A) N priorities
 
     unfoldable pub view : 𝓡.State → machine.runner.State
-    unfolding waitingBit
+    unfolding waiting_bit
     view S = record { cells = cell S; marks = fault S; kept = 𝓡.waits S }
 
     pub viewed : Viewed 𝓡 machine fit view
-    unfolding waitingBit view
+    unfolding waiting_bit view
     viewed =
         record {
           n-is = n-is;
-          goesBefore-is = goesBefore-is;
+          goes_before-is = goes_before-is;
           waits-is = λ S r f l. refl;
           step_fits = step_fits;
           step_is = λ r S f h.
@@ -96,9 +96,9 @@ module _ (k : ℕ) (A : Actions k) (𝓡 : Runner) (C : Concrete k A 𝓡) where
 
     -- "Cleared: the book ends and every unordered pair passes."
     pub cleared⇒promised : PairsPass machine → (S : 𝓡.State) → fit S → Promised S
-    unfolding waitingBit view stepBound
+    unfolding waiting_bit view step_bound
     cleared⇒promised passes S f =
-        let one : UniqueEnds machine (view S) = passes⇒uniqueEnds machine passes (view S) in
+        let one : UniqueEnds machine (view S) = passes⇒unique_ends machine passes (view S) in
         record {
           short = viewed-short 𝓡 machine fit view viewed S f;
           goes_on = viewed-on 𝓡 machine fit view viewed S;

@@ -9,16 +9,16 @@ use mathlib.Mathlib.Logic.Relation.ReflTransGenᴰ.{refl as no_step}
 use mathlib.Mathlib.Logic.Relation.{ReflTransGenᴰ as Star}
 use Rattle.std.proofs.Math.Decide.{ℕ_discrete, dec_lt}
 use Rattle.orders.specs.Newman.{NormalForm, Terminating, Joinable, Respected, LocallyConfluent, Confluent}
-use Rattle.orders.specs.Newman.{confluent⇒uniqueNormalForms, terminating&locallyConfluent⇒confluent}
+use Rattle.orders.specs.Newman.{confluent⇒unique_normal_forms, terminating&locally_confluent⇒confluent}
 use Rattle.orders.specs.Runner.{Runner, Eligible, exec, Runs, Ended, runs_append, exec-append, goes_on}
-use Rattle.orders.specs.System.{System, stepBound, stepBound-falls, bounded, eligible-same}
-use Rattle.orders.specs.Pairs.{Passes, PairCondition, pairCondition-flip, passes⇒pairCondition}
-use Rattle.orders.specs.Join.{pairCondition⇒joined}
+use Rattle.orders.specs.System.{System, step_bound, step_bound_falls, bounded, eligible-same}
+use Rattle.orders.specs.Pairs.{Passes, PairCondition, pair_condition_flip, passes⇒pair_condition}
+use Rattle.orders.specs.Join.{pair_condition⇒joined}
 
 -- ── what is promised ──
 module _ (𝓢 : System) where
   open 𝓢 use {runner, same}
-  open 𝓢.runner use {n, State, waits, goesBefore}
+  open 𝓢.runner use {n, State, waits, goes_before}
 
   -- all runs from S that go as far as they can end in states that are the same: unique normal forms, modulo `same`
   abbrev pub UniqueEnds : State → Type 0
@@ -29,14 +29,14 @@ module _ (𝓢 : System) where
 
   -- every order from S is short, goes on and ends alike
   pub record EveryRun (S : State) : Type 0 where
-    pub short : (u : List ℕ) → Runs runner u S → length u ≤ stepBound 𝓢 S
+    pub short : (u : List ℕ) → Runs runner u S → length u ≤ step_bound 𝓢 S
     pub goes_on : (u : List ℕ) → Runs runner u S → (r : ℕ) → r < n → So (waits (exec runner u S) r)
         → (s : ℕ) × Runs runner (u ++ (s ∷ [])) S
     pub unique-ends : UniqueEnds S
 
   -- "unordered i and j (neither goes before the other)"
   abbrev pub Unordered : ℕ → ℕ → Type 0
-  Unordered i j = (So (goesBefore i j) → ⊥) × (So (goesBefore j i) → ⊥)
+  Unordered i j = (So (goes_before i j) → ⊥) × (So (goes_before j i) → ⊥)
 
   -- "every unordered pair passes"
   abbrev pub PairsPass : Type 0
@@ -63,18 +63,18 @@ module _ (𝓡 : Runner) where
   two-runs⇒star u v S h k =
       rw (exec-append 𝓡 u v S) at (runs⇒star (u ++ v) S (runs_append 𝓡 u v S h k))
 
-  ended⇒normalForm : (S : State) → Ended 𝓡 S → NormalForm EligibleStep S
-  ended⇒normalForm S f T h = f h.0 h.1.below h.1.waiting
+  ended⇒normal_form : (S : State) → Ended 𝓡 S → NormalForm EligibleStep S
+  ended⇒normal_form S f T h = f h.0 h.1.below h.1.waiting
 
 module _ (𝓢 : System) where
   open 𝓢 use {runner, same, same-is, same_step}
-  open 𝓢.runner use {n, State, step, goesBefore}
+  open 𝓢.runner use {n, State, step, goes_before}
 
-  steps-terminate : Terminating (EligibleStep runner) (stepBound 𝓢)
-  steps-terminate S T h = rw h.2 at (stepBound-falls 𝓢 h.0 S h.1.below h.1.waiting)
+  steps_terminate : Terminating (EligibleStep runner) (step_bound 𝓢)
+  steps_terminate S T h = rw h.2 at (step_bound_falls 𝓢 h.0 S h.1.below h.1.waiting)
 
-  steps-respected : Respected (EligibleStep runner) same
-  steps-respected S T U e h =
+  steps_respected : Respected (EligibleStep runner) same
+  steps_respected S T U e h =
       let r = h.0 in
       let q : same U (step r T) = rw h.2 at (same_step S T e r h.1.below h.1.waiting) in
       (step r T, (r, eligible-same 𝓢 r e h.1, refl), q)
@@ -88,52 +88,52 @@ module _ (𝓢 : System) where
           subst (λ x. Joinable (EligibleStep runner) same (step i S) (step x S)) e
           (step i S, step i S, no_step, no_step, same-is.refl (step i S))
       go (no ne) =
-          let J = pairCondition⇒joined 𝓢 i j hi.below hj.below (pairs i j S hi hj ne) S hi hj in
+          let J = pair_condition⇒joined 𝓢 i j hi.below hj.below (pairs i j S hi hj ne) S hi hj in
           let by-i = two-runs⇒star runner J.u (j ∷ J.v) (step i S) J.runs-u.1 J.then-v in
           let by-j = two-runs⇒star runner J.v (i ∷ J.u) (step j S) J.runs-v.1 J.then-u in
           (_, _, by-i, by-j, J.meet)
 
-  pub pairs⇒locallyConfluent : PairsTogether 𝓢 → LocallyConfluent (EligibleStep runner) same
-  pairs⇒locallyConfluent pairs S T U h k =
+  pub pairs⇒locally_confluent : PairsTogether 𝓢 → LocallyConfluent (EligibleStep runner) same
+  pairs⇒locally_confluent pairs S T U h k =
       rw (h.2, k.2) at (join pairs S h.0 k.0 h.1 k.1)
 
   pub pairs⇒confluent : PairsTogether 𝓢 → Confluent (EligibleStep runner) same
   pairs⇒confluent pairs =
-      terminating&locallyConfluent⇒confluent (EligibleStep runner) same same-is (stepBound 𝓢)
-      steps-terminate steps-respected (pairs⇒locallyConfluent pairs)
+      terminating&locally_confluent⇒confluent (EligibleStep runner) same same-is (step_bound 𝓢)
+      steps_terminate steps_respected (pairs⇒locally_confluent pairs)
 
   -- (c)
-  pub pairs⇒uniqueEnds : PairsTogether 𝓢 → (S : State) → UniqueEnds 𝓢 S
-  pairs⇒uniqueEnds pairs S u v h k f g =
-      confluent⇒uniqueNormalForms (EligibleStep runner) same same-is (pairs⇒confluent pairs) S _ _
+  pub pairs⇒unique_ends : PairsTogether 𝓢 → (S : State) → UniqueEnds 𝓢 S
+  pairs⇒unique_ends pairs S u v h k f g =
+      confluent⇒unique_normal_forms (EligibleStep runner) same same-is (pairs⇒confluent pairs) S _ _
       (runs⇒star runner u S h) (runs⇒star runner v S k)
-      (ended⇒normalForm runner (exec runner u S) f) (ended⇒normalForm runner (exec runner v S) g)
+      (ended⇒normal_form runner (exec runner u S) f) (ended⇒normal_form runner (exec runner v S) g)
 
   -- two rules that are eligible together are unordered
   pub unordered⇒together : ((i j : ℕ) → i < j → j < n → Unordered 𝓢 i j → PairCondition 𝓢 i j)
       → PairsTogether 𝓢
   unordered⇒together pairs i j S hi hj ne = go (dec_lt i j)
     where
-      ij : So (goesBefore i j) → ⊥
+      ij : So (goes_before i j) → ⊥
       ij = hj.none_before i hi.below hi.waiting
 
-      ji : So (goesBefore j i) → ⊥
+      ji : So (goes_before j i) → ⊥
       ji = hi.none_before j hj.below hj.waiting
 
       go : Dec (i < j) → PairCondition 𝓢 i j
       go (yes l) = pairs i j l hj.below (ij, ji)
-      go (no l) = pairCondition-flip 𝓢 j i (pairs j i (omega arith) hi.below (ji, ij))
+      go (no l) = pair_condition_flip 𝓢 j i (pairs j i (omega arith) hi.below (ji, ij))
 
-  pub passes⇒uniqueEnds : PairsPass 𝓢 → (S : State) → UniqueEnds 𝓢 S
-  passes⇒uniqueEnds passes =
-      pairs⇒uniqueEnds
-      (unordered⇒together (λ i j l m un. passes⇒pairCondition 𝓢 i j (λ e. omega arith) (passes i j l m un)))
+  pub passes⇒unique_ends : PairsPass 𝓢 → (S : State) → UniqueEnds 𝓢 S
+  passes⇒unique_ends passes =
+      pairs⇒unique_ends
+      (unordered⇒together (λ i j l m un. passes⇒pair_condition 𝓢 i j (λ e. omega arith) (passes i j l m un)))
 
   -- "Cleared: the book ends and every unordered pair passes." That it ends is in the system's weights.
-  pub passes⇒everyRun : PairsPass 𝓢 → (S : State) → EveryRun 𝓢 S
-  passes⇒everyRun passes S =
+  pub passes⇒every_run : PairsPass 𝓢 → (S : State) → EveryRun 𝓢 S
+  passes⇒every_run passes S =
       record {
         short = λ u h. bounded 𝓢 u S h;
         goes_on = λ u h. goes_on runner u S h;
-        unique-ends = passes⇒uniqueEnds passes S;
+        unique-ends = passes⇒unique_ends passes S;
       }

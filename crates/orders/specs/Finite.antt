@@ -34,9 +34,9 @@ pub or_right : (a b : Bool) → So b → So (a || b)
 or_right true b h = refl
 or_right false b h = h
 
-pub not-intro : (b : Bool) → (So b → ⊥) → So (not b)
-not-intro true h = absurd (h refl)
-not-intro false h = refl
+pub not_intro : (b : Bool) → (So b → ⊥) → So (not b)
+not_intro true h = absurd (h refl)
+not_intro false h = refl
 
 pub not-elim : (b : Bool) → So (not b) → So b → ⊥
 not-elim true h k = false≢true h
@@ -69,12 +69,12 @@ sum-le f g zero h = omega arith
 sum-le f g (suc k) h = omega (arith, sum-le f g k (λ s l. h s (omega arith)), h k (omega arith))
 
 -- where one number has d to spare, so has the sum
-pub sum-spare : (f g : ℕ → ℕ) (d r k : ℕ) → ((s : ℕ) → s < k → f s ≤ g s) → r < k → f r + d ≤ g r
+pub sum_spare : (f g : ℕ → ℕ) (d r k : ℕ) → ((s : ℕ) → s < k → f s ≤ g s) → r < k → f r + d ≤ g r
     → sum f k + d ≤ sum g k
 unfolding sum
-sum-spare f g d r zero h l e = omega arith
-sum-spare f g d r (suc k) h l e =
-    go (λ m. sum-spare f g d r k (λ s m. h s (omega arith)) m e) (ℕ_discrete r k)
+sum_spare f g d r zero h l e = omega arith
+sum_spare f g d r (suc k) h l e =
+    go (λ m. sum_spare f g d r k (λ s m. h s (omega arith)) m e) (ℕ_discrete r k)
   where
     go : (r < k → sum f k + d ≤ sum g k) → Dec (r ≡ k) → sum f k + f k + d ≤ sum g k + g k
     go ih (yes p) =
@@ -83,19 +83,19 @@ sum-spare f g d r (suc k) h l e =
     go ih (no p) = omega (arith, ih (omega arith), h k (omega arith))
 
 -- a term is at most the sum
-pub sum-term : (f : ℕ → ℕ) (r k : ℕ) → r < k → f r ≤ sum f k
+pub sum_term : (f : ℕ → ℕ) (r k : ℕ) → r < k → f r ≤ sum f k
 unfolding sum
-sum-term f r zero l = omega arith
-sum-term f r (suc k) l = go (λ m. sum-term f r k m) (ℕ_discrete r k)
+sum_term f r zero l = omega arith
+sum_term f r (suc k) l = go (λ m. sum_term f r k m) (ℕ_discrete r k)
   where
     go : (r < k → f r ≤ sum f k) → Dec (r ≡ k) → f r ≤ sum f k + f k
     go ih (yes p) = rw p (omega arith)
     go ih (no p) = omega (arith, ih (omega arith))
 
 -- ── searches ──
-pub search-below : (D : ℕ → Type 0) → ((r : ℕ) → Dec (D r)) → (k : ℕ) → Dec ((r : ℕ) × (r < k) × D r)
-search-below D dec zero = no (λ w. omega (arith, w.1))
-search-below D dec (suc k) = go (dec k) (search-below D dec k)
+pub search_below : (D : ℕ → Type 0) → ((r : ℕ) → Dec (D r)) → (k : ℕ) → Dec ((r : ℕ) × (r < k) × D r)
+search_below D dec zero = no (λ w. omega (arith, w.1))
+search_below D dec (suc k) = go (dec k) (search_below D dec k)
   where
     go : Dec (D k) → Dec ((r : ℕ) × (r < k) × D r) → Dec ((r : ℕ) × (r < suc k) × D r)
     go (yes d) e = yes (k, omega arith, d)
@@ -116,10 +116,10 @@ any-elim p (suc k) h =
     (w.0, omega (arith, w.1), w.2))
     (or_cases (p k) (any p k) h)
 
-pub any-intro : (p : ℕ → Bool) (k x : ℕ) → x < k → So (p x) → So (any p k)
+pub any_intro : (p : ℕ → Bool) (k x : ℕ) → x < k → So (p x) → So (any p k)
 unfolding any
-any-intro p zero x l h = absurd (omega arith)
-any-intro p (suc k) x l h = go (λ m. any-intro p k x m h) (ℕ_discrete x k)
+any_intro p zero x l h = absurd (omega arith)
+any_intro p (suc k) x l h = go (λ m. any_intro p k x m h) (ℕ_discrete x k)
   where
     go : (x < k → So (any p k)) → Dec (x ≡ k) → So (p k || any p k)
     go ih (yes e) = or_left (p k) (any p k) (subst (λ z. So (p z)) e h)

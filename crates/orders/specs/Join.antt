@@ -5,26 +5,26 @@ use Rattle.std.proofs.Math.Logic.{inl, inr}
 use Rattle.std.proofs.Common.{⊎_elim}
 use Rattle.std.proofs.Math.Bool.{So, Bool-discrete}
 use Rattle.std.proofs.Math.Decide.{ℕ_discrete, dec_lt}
-use Rattle.orders.specs.Runner.{Eligible, exec, Runs, AtOrBefore, then-atOrBefore}
+use Rattle.orders.specs.Runner.{Eligible, exec, Runs, AtOrBefore, then_at_or_before}
 use Rattle.orders.specs.System.{System}
 use Rattle.orders.specs.Side.{Side, NoneAhead, branch, after-branch}
-use Rattle.orders.specs.Pairs.{Closed, PairCondition, pairCondition-flip}
+use Rattle.orders.specs.Pairs.{Closed, PairCondition, pair_condition_flip}
 
 module _ (𝓢 : System) (i j : ℕ) (li : i < 𝓢.runner.n) (lj : j < 𝓢.runner.n) where
-  open 𝓢 use {runner, mayTrigger, same}
-  open 𝓢.runner use {n, State, waits, goesBefore}
+  open 𝓢 use {runner, may_trigger, same}
+  open 𝓢.runner use {n, State, waits, goes_before}
 
   -- ── the two sets, cut down to the rules that are i or j or go before one of the two ──
   abbrev Under : ℕ → Type 0
   Under r = AtOrBefore runner r i ⊎ AtOrBefore runner r j
 
-  under-dec : (r : ℕ) → Dec (Under r)
-  under-dec r = go (at? i) (at? j)
+  under_dec : (r : ℕ) → Dec (Under r)
+  under_dec r = go (at? i) (at? j)
     where
       at? : (m : ℕ) → Dec (AtOrBefore runner r m)
-      at? m = at (ℕ_discrete r m) (Bool-discrete (goesBefore r m) true)
+      at? m = at (ℕ_discrete r m) (Bool-discrete (goes_before r m) true)
         where
-          at : Dec (r ≡ m) → Dec (So (goesBefore r m)) → Dec (AtOrBefore runner r m)
+          at : Dec (r ≡ m) → Dec (So (goes_before r m)) → Dec (AtOrBefore runner r m)
           at (yes a) b = yes (inl a)
           at (no a) (yes b) = yes (inr b)
           at (no a) (no b) = no (⊎_elim a b)
@@ -34,17 +34,17 @@ module _ (𝓢 : System) (i j : ℕ) (li : i < 𝓢.runner.n) (lj : j < 𝓢.run
       go (no a) (yes b) = yes (inr b)
       go (no a) (no b) = no (⊎_elim a b)
 
-  before-under : (s r : ℕ) → s < n → r < n → So (goesBefore s r) → Under r
-      → So (goesBefore s i) ⊎ So (goesBefore s j)
-  before-under s r ls lr b =
-      ⊎_elim (λ u. inl (then-atOrBefore runner s r i ls lr li b u))
-      (λ u. inr (then-atOrBefore runner s r j ls lr lj b u))
+  before_under : (s r : ℕ) → s < n → r < n → So (goes_before s r) → Under r
+      → So (goes_before s i) ⊎ So (goes_before s j)
+  before_under s r ls lr b =
+      ⊎_elim (λ u. inl (then_at_or_before runner s r i ls lr li b u))
+      (λ u. inr (then_at_or_before runner s r j ls lr lj b u))
 
   abbrev In : (ℕ → Bool) → ℕ → Type 0
   In R r = (r < n) × So (R r) × Under r
 
-  in-dec : (R : ℕ → Bool) (r : ℕ) → Dec (In R r)
-  in-dec R r = go (dec_lt r n) (Bool-discrete (R r) true) (under-dec r)
+  in_dec : (R : ℕ → Bool) (r : ℕ) → Dec (In R r)
+  in_dec R r = go (dec_lt r n) (Bool-discrete (R r) true) (under_dec r)
     where
       go : Dec (r < n) → Dec (So (R r)) → Dec (Under r) → Dec (In R r)
       go (yes a) (yes b) (yes c) = yes (a, b, c)
@@ -53,28 +53,28 @@ module _ (𝓢 : System) (i j : ℕ) (li : i < 𝓢.runner.n) (lj : j < 𝓢.run
       go (no a) b c = no (λ x. a x.0)
 
   -- still closed
-  in-closed : (R₁ R₂ : ℕ → Bool) → Closed 𝓢 R₁ R₂ → (a r b : ℕ) → r < n
-      → In R₁ a → So (mayTrigger a r) → So (goesBefore r b) → In R₂ b → In R₁ r
-  in-closed R₁ R₂ c a r b l x t f y =
-      let under = ⊎_elim (λ z. inl (inr z)) (λ z. inr (inr z)) (before-under r b l y.0 f y.2) in
+  in_closed : (R₁ R₂ : ℕ → Bool) → Closed 𝓢 R₁ R₂ → (a r b : ℕ) → r < n
+      → In R₁ a → So (may_trigger a r) → So (goes_before r b) → In R₂ b → In R₁ r
+  in_closed R₁ R₂ c a r b l x t f y =
+      let under = ⊎_elim (λ z. inl (inr z)) (λ z. inr (inr z)) (before_under r b l y.0 f y.2) in
       (l, c a r b x.0 l y.0 x.1 t f y.1, under)
 
   side : (x y : ℕ) (p : PairCondition 𝓢 x y) → Side 𝓢 (In p.R₁) (In p.R₂)
   side x y p =
       record {
-        P-below = λ a x. x.0;
-        Q-below = λ b y. y.0;
-        Q-dec = in-dec p.R₂;
-        closed = in-closed p.R₁ p.R₂ p.closed₁;
+        P_below = λ a x. x.0;
+        Q_below = λ b y. y.0;
+        Q_dec = in_dec p.R₂;
+        closed = in_closed p.R₁ p.R₂ p.closed₁;
         commuting = λ a b x y. (p.commuting a b x.0 y.0 x.1 y.1).0;
         apart = λ a b x y. (p.commuting a b x.0 y.0 x.1 y.1).1;
       }
 
   -- nothing that waits goes before a rule of the sets, where i and j are both eligible
-  none-under : (S : State) → Eligible runner i S → Eligible runner j S → (s m : ℕ) → s < n
-      → So (waits S s) → So (goesBefore s m) → m < n → Under m → ⊥
-  none-under S hi hj s m l w b lm u =
-      ⊎_elim (hi.none_before s l w) (hj.none_before s l w) (before-under s m l lm b u)
+  none_under : (S : State) → Eligible runner i S → Eligible runner j S → (s m : ℕ) → s < n
+      → So (waits S s) → So (goes_before s m) → m < n → Under m → ⊥
+  none_under S hi hj s m l w b lm u =
+      ⊎_elim (hi.none_before s l w) (hj.none_before s l w) (before_under s m l lm b u)
 
   -- ── the two ways ──
   -- a run that starts with i and one that starts with j, each still a run after the other, with the same end
@@ -83,21 +83,21 @@ module _ (𝓢 : System) (i j : ℕ) (li : i < 𝓢.runner.n) (lj : j < 𝓢.run
     pub v : List ℕ
     pub runs-u : Runs runner (i ∷ u) S
     pub runs-v : Runs runner (j ∷ v) S
-    pub then-v : Runs runner (j ∷ v) (exec runner (i ∷ u) S)
-    pub then-u : Runs runner (i ∷ u) (exec runner (j ∷ v) S)
+    pub then_v : Runs runner (j ∷ v) (exec runner (i ∷ u) S)
+    pub then_u : Runs runner (i ∷ u) (exec runner (j ∷ v) S)
     pub meet : same (exec runner (j ∷ v) (exec runner (i ∷ u) S))
         (exec runner (i ∷ u) (exec runner (j ∷ v) S))
 
-  pub pairCondition⇒joined : PairCondition 𝓢 i j → (S : State) → Eligible runner i S → Eligible runner j S
+  pub pair_condition⇒joined : PairCondition 𝓢 i j → (S : State) → Eligible runner i S → Eligible runner j S
       → Joined S
-  unfolding pairCondition-flip
-  pairCondition⇒joined p S hi hj =
+  unfolding pair_condition_flip
+  pair_condition⇒joined p S hi hj =
       let P = In p.R₁ in
       let Q = In p.R₂ in
       let D₁ = side i j p in
-      let D₂ = side j i (pairCondition-flip 𝓢 i j p) in
-      let quiet₁ : NoneAhead 𝓢 P Q D₁ S = λ s m l w b q. none-under S hi hj s m l w b q.0 q.2 in
-      let quiet₂ : NoneAhead 𝓢 Q P D₂ S = λ s m l w b q. none-under S hi hj s m l w b q.0 q.2 in
+      let D₂ = side j i (pair_condition_flip 𝓢 i j p) in
+      let quiet₁ : NoneAhead 𝓢 P Q D₁ S = λ s m l w b q. none_under S hi hj s m l w b q.0 q.2 in
+      let quiet₂ : NoneAhead 𝓢 Q P D₂ S = λ s m l w b q. none_under S hi hj s m l w b q.0 q.2 in
       let b₁ = branch 𝓢 P Q D₁ i S (hi.below, p.has₁, inl (inl refl)) hi quiet₁ in
       let b₂ = branch 𝓢 Q P D₂ j S (hj.below, p.has₂, inr (inl refl)) hj quiet₂ in
       let a₁ = after-branch 𝓢 P Q D₁ i (j ∷ b₂.rules) S b₁ b₂.runs b₂.each in
@@ -107,7 +107,7 @@ module _ (𝓢 : System) (i j : ℕ) (li : i < 𝓢.runner.n) (lj : j < 𝓢.run
         v = b₂.rules;
         runs-u = b₁.runs;
         runs-v = b₂.runs;
-        then-v = a₁.0;
-        then-u = a₂.0;
+        then_v = a₁.0;
+        then_u = a₂.0;
         meet = a₁.1;
       }

@@ -10,15 +10,15 @@ use Rattle.std.proofs.Math.IntN.{suc_ℤ}
 use Rattle.orders.specs.Finite.{sum, any, all}
 use Rattle.orders.specs.System.{System}
 use Rattle.orders.specs.Pairs.{Passes, PairCondition}
-use Rattle.orders.specs.Confluence.{EveryRun, passes⇒everyRun}
+use Rattle.orders.specs.Confluence.{EveryRun, passes⇒every_run}
 use Rattle.orders.specs.Cells.{Cells, EqualOn}
-use Rattle.orders.specs.Kept.{waitingBit}
+use Rattle.orders.specs.Kept.{waiting_bit}
 use Rattle.orders.specs.Bodies.{Bodies, Priorities}
 use Rattle.orders.specs.BodiesSystem.{system}
-use Rattle.orders.specs.Sets.{mayTrigger, clashes, commute, setsAnalysis}
-use Rattle.orders.specs.Actions.{Actions, actionBodies, actionFacts}
+use Rattle.orders.specs.Sets.{may_trigger, clashes, commute, sets_analysis}
+use Rattle.orders.specs.Actions.{Actions, action_bodies, action_facts}
 use Rattle.orders.specs.SmallTests.{irreflexive?, transitive?, irreflexive-elim, transitive-elim, weighs?, weighs-elim}
-use Rattle.orders.specs.SmallTests.{closed?, across?, closed-elim, across-elim}
+use Rattle.orders.specs.SmallTests.{closed?, across?, closed-elim, across_elim}
 
 -- the cell that a rule watches; rules from 3 up do not count
 abbrev watched : ℕ → ℕ
@@ -64,7 +64,7 @@ actions =
       stores = λ r c. true;
       value = λ r c x. right r c;
       faults = λ r c. false;
-      goesBefore = before;
+      goes_before = before;
       stores-local = λ r c d l h. refl;
       value-local = λ r c d x l lx h w. right-local r c d h;
       faults-local = λ r c d l h. refl;
@@ -76,55 +76,55 @@ actions =
     right-local (suc (suc r)) c d h = refl
 
 abbrev bodies : Bodies 4
-bodies = actionBodies 4 actions
+bodies = action_bodies 4 actions
 
 pub strict : Priorities 4 bodies
 unfolding irreflexive? transitive? all
 strict = record { irreflexive = irreflexive-elim 3 before refl; transitive = transitive-elim 3 before refl }
 
-pub mended-weighs : So (weighs? 3 (mayTrigger 4 bodies) weight)
-unfolding weighs? all sum mayTrigger any
+pub mended-weighs : So (weighs? 3 (may_trigger 4 bodies) weight)
+unfolding weighs? all sum may_trigger any
 mended-weighs = refl
 
 abbrev pub mended : System
 mended =
-    system 4 (waitingBit 4) bodies (actionFacts 4 actions)
-    (setsAnalysis 4 bodies weight (weighs-elim 3 (mayTrigger 4 bodies) weight mended-weighs)) strict
+    system 4 (waiting_bit 4) bodies (action_facts 4 actions)
+    (sets_analysis 4 bodies weight (weighs-elim 3 (may_trigger 4 bodies) weight mended-weighs)) strict
 
 -- rules 0 and 1 are the only unordered pair
-only-pair : (P : ℕ → ℕ → Type 0) → P 0 1 → (i j : ℕ) → i < j → j < 3
+only_pair : (P : ℕ → ℕ → Type 0) → P 0 1 → (i j : ℕ) → i < j → j < 3
     → (So (before i j) → ⊥) × (So (before j i) → ⊥) → P i j
-only-pair P p zero zero l m un = absurd (omega arith)
-only-pair P p zero (suc zero) l m un = p
-only-pair P p zero (suc (suc j)) l m un = absurd (un.1 refl)
-only-pair P p (suc zero) zero l m un = absurd (omega arith)
-only-pair P p (suc zero) (suc zero) l m un = absurd (omega arith)
-only-pair P p (suc zero) (suc (suc j)) l m un = absurd (un.1 refl)
-only-pair P p (suc (suc i)) j l m un = absurd (omega arith)
+only_pair P p zero zero l m un = absurd (omega arith)
+only_pair P p zero (suc zero) l m un = p
+only_pair P p zero (suc (suc j)) l m un = absurd (un.1 refl)
+only_pair P p (suc zero) zero l m un = absurd (omega arith)
+only_pair P p (suc zero) (suc zero) l m un = absurd (omega arith)
+only_pair P p (suc zero) (suc (suc j)) l m un = absurd (un.1 refl)
+only_pair P p (suc (suc i)) j l m un = absurd (omega arith)
 
 -- R1 of the pair (0, 1)
-abbrev zeroAndTwo : ℕ → Bool
-zeroAndTwo r = eqb r 0 || eqb r 2
+abbrev zero_and_two : ℕ → Bool
+zero_and_two r = eqb r 0 || eqb r 2
 
-abbrev oneOnly : ℕ → Bool
-oneOnly r = eqb r 1
+abbrev one_only : ℕ → Bool
+one_only r = eqb r 1
 
 pub mended-passes : Passes mended 0 1
-unfolding closed? across? all mayTrigger clashes commute any
+unfolding closed? across? all may_trigger clashes commute any
 mended-passes =
     record {
-      R₁ = zeroAndTwo;
-      R₂ = oneOnly;
+      R₁ = zero_and_two;
+      R₂ = one_only;
       has₁ = refl;
       has₂ = refl;
-      closed₁ = closed-elim mended zeroAndTwo oneOnly refl;
-      closed₂ = closed-elim mended oneOnly zeroAndTwo refl;
+      closed₁ = closed-elim mended zero_and_two one_only refl;
+      closed₂ = closed-elim mended one_only zero_and_two refl;
       grown₁ = λ r l x ne. (0, omega arith, refl, triggered r l x ne);
       grown₂ = λ r l x ne. absurd (ne (eqb-true r 1 x));
-      commuting = across-elim mended zeroAndTwo oneOnly refl;
+      commuting = across_elim mended zero_and_two one_only refl;
     }
   where
-    triggered : (r : ℕ) → r < 3 → So (zeroAndTwo r) → r ≢ 0 → So (mended.mayTrigger 0 r)
+    triggered : (r : ℕ) → r < 3 → So (zero_and_two r) → r ≢ 0 → So (mended.may_trigger 0 r)
     triggered zero l x ne = absurd (ne refl)
     triggered (suc zero) l x ne = absurd (false≢true x)
     triggered (suc (suc zero)) l x ne = refl
@@ -132,8 +132,8 @@ mended-passes =
 
 -- the first set has to grow: whatever the two sets are, rule 2 is in it
 pub mended-grows : (p : PairCondition mended 0 1) → So (p.R₁ 2)
-unfolding mayTrigger any
+unfolding may_trigger any
 mended-grows p = p.closed₁ 0 2 1 (omega arith) (omega arith) (omega arith) p.has₁ refl refl p.has₂
 
-pub mended-everyRun : (S : mended.runner.State) → EveryRun mended S
-mended-everyRun = passes⇒everyRun mended (only-pair (Passes mended) mended-passes)
+pub mended_every_run : (S : mended.runner.State) → EveryRun mended S
+mended_every_run = passes⇒every_run mended (only_pair (Passes mended) mended-passes)

@@ -8,17 +8,17 @@ use Rattle.orders.specs.System.{System}
 
 -- ── two sets of rules ──
 module _ (𝓢 : System) where
-  open 𝓢 use {mayTrigger, commute}
-  open 𝓢.runner use {n, goesBefore}
+  open 𝓢 use {may_trigger, commute}
+  open 𝓢.runner use {n, goes_before}
 
   -- "add to R1 each rule that one in R1 may trigger and that goes before one in R2": R₁ holds all of these
   abbrev pub Closed : (ℕ → Bool) → (ℕ → Bool) → Type 0
   Closed R₁ R₂ = (a r b : ℕ) → a < n → r < n → b < n
-      → So (R₁ a) → So (mayTrigger a r) → So (goesBefore r b) → So (R₂ b) → So (R₁ r)
+      → So (R₁ a) → So (may_trigger a r) → So (goes_before r b) → So (R₂ b) → So (R₁ r)
 
   -- R holds no more than i and rules that one in R may trigger
   abbrev pub GrownFrom : ℕ → (ℕ → Bool) → Type 0
-  GrownFrom i R = (r : ℕ) → r < n → So (R r) → r ≢ i → (a : ℕ) × (a < n) × So (R a) × So (mayTrigger a r)
+  GrownFrom i R = (r : ℕ) → r < n → So (R r) → r ≢ i → (a : ℕ) × (a < n) × So (R a) × So (may_trigger a r)
 
   -- The paper's condition: "The pair passes when each rule of R1 commutes with each of R2."
   pub record Passes (i j : ℕ) : Type 0 where
@@ -43,12 +43,12 @@ module _ (𝓢 : System) where
     pub commuting : (a b : ℕ) → a < n → b < n → So (R₁ a) → So (R₂ b) → So (commute a b) × (a ≢ b)
 
 module _ (𝓢 : System) (i j : ℕ) where
-  open 𝓢 use {mayTrigger, commute-symmetric, commute-quiet}
+  open 𝓢 use {may_trigger, commute_symmetric, commute-quiet}
   open 𝓢.runner use {n}
 
   -- the condition does not depend on which of the two is named first
-  unfoldable pub pairCondition-flip : PairCondition 𝓢 i j → PairCondition 𝓢 j i
-  pairCondition-flip p =
+  unfoldable pub pair_condition_flip : PairCondition 𝓢 i j → PairCondition 𝓢 j i
+  pair_condition_flip p =
       record {
         R₁ = p.R₂;
         R₂ = p.R₁;
@@ -58,7 +58,7 @@ module _ (𝓢 : System) (i j : ℕ) where
         closed₂ = p.closed₁;
         commuting = λ a b l m x y.
             let c = p.commuting b a m l y x in
-            (commute-symmetric b a m l c.0, λ e. c.1 (sym e));
+            (commute_symmetric b a m l c.0, λ e. c.1 (sym e));
       }
 
   -- ── a pair that passes meets the condition: the two sets share no rule ──
@@ -70,13 +70,13 @@ module _ (𝓢 : System) (i j : ℕ) where
       go (yes e) (no f) =
           let w = p.grown₂ r l y f in
           commute-quiet w.0 r w.1 l
-          (commute-symmetric r w.0 l w.1 (p.commuting r w.0 l w.1 x w.2)) w.3
+          (commute_symmetric r w.0 l w.1 (p.commuting r w.0 l w.1 x w.2)) w.3
       go (no e) f =
           let w = p.grown₁ r l x e in
           commute-quiet w.0 r w.1 l (p.commuting w.0 r w.1 l w.2 y) w.3
 
-  pub passes⇒pairCondition : i ≢ j → Passes 𝓢 i j → PairCondition 𝓢 i j
-  passes⇒pairCondition ne p =
+  pub passes⇒pair_condition : i ≢ j → Passes 𝓢 i j → PairCondition 𝓢 i j
+  passes⇒pair_condition ne p =
       record {
         R₁ = p.R₁;
         R₂ = p.R₂;

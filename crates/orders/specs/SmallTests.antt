@@ -24,8 +24,8 @@ transitive? n before =
     all (λ r. all (λ s. all (λ t. implies (before r s) (implies (before s t) (before r t))) n) n) n
 
 unfoldable pub weighs? : ℕ → (ℕ → ℕ → Bool) → (ℕ → ℕ) → Bool
-weighs? n mayTrigger weight =
-    all (λ r. leb (1 + sum (λ s. cond (mayTrigger r s) (weight s) 0) n) (weight r)) n
+weighs? n may_trigger weight =
+    all (λ r. leb (1 + sum (λ s. cond (may_trigger r s) (weight s) 0) n) (weight r)) n
 
 module _ (n : ℕ) (before : ℕ → ℕ → Bool) where
   pub irreflexive-elim : So (irreflexive? n before) → (r : ℕ) → r < n → So (before r r) → ⊥
@@ -39,15 +39,15 @@ module _ (n : ℕ) (before : ℕ → ℕ → Bool) where
       implies-elim (before s t) (before r t)
       (implies-elim (before r s) _ (all-elim _ n (all-elim _ n (all-elim _ n h r lr) s ls) t lt) x) y
 
-pub weighs-elim : (n : ℕ) (mayTrigger : ℕ → ℕ → Bool) (weight : ℕ → ℕ) → So (weighs? n mayTrigger weight)
-    → Weighs n mayTrigger weight
+pub weighs-elim : (n : ℕ) (may_trigger : ℕ → ℕ → Bool) (weight : ℕ → ℕ) → So (weighs? n may_trigger weight)
+    → Weighs n may_trigger weight
 unfolding weighs?
-weighs-elim n mayTrigger weight h r l = leb-true _ _ (all-elim _ n h r l)
+weighs-elim n may_trigger weight h r l = leb-true _ _ (all-elim _ n h r l)
 
 -- ── pairs ──
 module _ (𝓢 : System) where
-  open 𝓢 use {mayTrigger, commute}
-  open 𝓢.runner use {n, goesBefore}
+  open 𝓢 use {may_trigger, commute}
+  open 𝓢.runner use {n, goes_before}
 
   unfoldable pub closed? : (ℕ → Bool) → (ℕ → Bool) → Bool
   closed? R₁ R₂ =
@@ -55,7 +55,7 @@ module _ (𝓢 : System) where
       (λ a.
       all
       (λ r.
-      all (λ b. implies (R₁ a) (implies (mayTrigger a r) (implies (goesBefore r b) (implies (R₂ b) (R₁ r))))) n)
+      all (λ b. implies (R₁ a) (implies (may_trigger a r) (implies (goes_before r b) (implies (R₂ b) (R₁ r))))) n)
       n)
       n
 
@@ -66,12 +66,12 @@ module _ (𝓢 : System) where
   unfolding closed?
   closed-elim R₁ R₂ h a r b la lr lb x t g y =
       implies-elim (R₂ b) (R₁ r)
-      (implies-elim (goesBefore r b) _
-      (implies-elim (mayTrigger a r) _
+      (implies-elim (goes_before r b) _
+      (implies-elim (may_trigger a r) _
       (implies-elim (R₁ a) _ (all-elim _ n (all-elim _ n (all-elim _ n h a la) r lr) b lb) x) t) g) y
 
-  pub across-elim : (R₁ R₂ : ℕ → Bool) → So (across? R₁ R₂) → (a b : ℕ) → a < n → b < n → So (R₁ a)
+  pub across_elim : (R₁ R₂ : ℕ → Bool) → So (across? R₁ R₂) → (a b : ℕ) → a < n → b < n → So (R₁ a)
       → So (R₂ b) → So (commute a b)
   unfolding across?
-  across-elim R₁ R₂ h a b la lb x y =
+  across_elim R₁ R₂ h a b la lb x y =
       implies-elim (R₂ b) (commute a b) (implies-elim (R₁ a) _ (all-elim _ n (all-elim _ n h a la) b lb) x) y

@@ -5,7 +5,7 @@ use Rattle.std.proofs.Common.{sym, ◌∙◌, ap, subst, arith}
 use Rattle.std.proofs.Math.Bool.{So}
 use Rattle.std.proofs.Math.Option.{some}
 use Rattle.orders.specs.Runner.{Runner, Eligible, exec, Runs, Ended, goes_on}
-use Rattle.orders.specs.System.{System, stepBound, bounded}
+use Rattle.orders.specs.System.{System, step_bound, bounded}
 use Rattle.orders.specs.Confluence.{UniqueEnds}
 use Rattle.orders.specs.Carry.{Carries, image-some, carry, carry-unique-ends}
 
@@ -13,7 +13,7 @@ use Rattle.orders.specs.Carry.{Carries, image-some, carry, carry-unique-ends}
 pub record Viewed (A : Runner) (𝓢 : System) (fit : A.State → Type 0) (view : A.State → 𝓢.runner.State)
     : Type 0 where
   pub n-is : A.n ≡ 𝓢.runner.n
-  pub goesBefore-is : (s r : ℕ) → s < A.n → r < A.n → A.goesBefore s r ≡ 𝓢.runner.goesBefore s r
+  pub goes_before-is : (s r : ℕ) → s < A.n → r < A.n → A.goes_before s r ≡ 𝓢.runner.goes_before s r
   pub waits-is : (S : A.State) (r : ℕ) → fit S → r < A.n → A.waits S r ≡ 𝓢.runner.waits (view S) r
   pub step_fits : (r : ℕ) (S : A.State) → fit S → Eligible A r S → fit (A.step r S)
   pub step_is : (r : ℕ) (S : A.State) → fit S → Eligible A r S
@@ -66,7 +66,7 @@ module _ (A : Runner) (𝓢 : System) (fit : A.State → Type 0) (view : A.State
               s,
               down s m,
               back S T s q (down s m) w,
-              𝓥.goesBefore-is s r (down s m) l ∙ ap (runner.goesBefore s) i ∙ b,
+              𝓥.goesBefore-is s r (down s m) l ∙ ap (runner.goes_before s) i ∙ b,
             );
         awake = λ r S T q m w. (r, down r m, back S T r q (down r m) w);
       }
@@ -75,7 +75,7 @@ module _ (A : Runner) (𝓢 : System) (fit : A.State → Type 0) (view : A.State
   start S f = (f, same-is.refl (view S))
 
   -- (a)
-  pub viewed-short : (S : A.State) → fit S → (u : List ℕ) → Runs A u S → length u ≤ stepBound 𝓢 (view S)
+  pub viewed-short : (S : A.State) → fit S → (u : List ℕ) → Runs A u S → length u ≤ step_bound 𝓢 (view S)
   viewed-short S f u h =
       let c = carry A runner some Shows carries u S (view S) (start S f) h in
       bounded 𝓢 u (view S) (subst (λ v. Runs runner v (view S)) (image-some u) c.0)

@@ -11,7 +11,7 @@ use borrow.Author.Tests.{lt-ltb, le-ltb}
 use Rattle.bytes.specs.Put.{put}
 use Rattle.mask.specs.Mask.{has}
 use Rattle.mask.proofs.BitsLaws.{ext, has-ones}
-use Rattle.mask.proofs.SearchLaws.{lt-or-ge}
+use Rattle.mask.proofs.SearchLaws.{lt-or_ge}
 use Rattle.report_lines.specs.declared.Printed.{Printed}
 use Rattle.report_lines.specs.Lines.{LinesSay}
 
@@ -29,7 +29,7 @@ length-within {s} {d} {x} h =
     (⊎_elim
     (λ l. rw (lt-ltb (length d) (length h.text) l) (omega arith, omega arith))
     (λ l. rw (le-ltb (length d) (length h.text) l) (l, h.most))
-    (lt-or-ge (length d) (length h.text)))
+    (lt-or_ge (length d) (length h.text)))
 
 -- a buffer of 512 bytes always gets the text
 pub enough : {s d : List ℕ} {x : Printed × List ℕ} → (h : LinesSay s d x) → 512 ≤ length d

@@ -4,29 +4,29 @@ use mathlib.Core.List.{List}
 use Prim.Native.Nat.{ℕ, ◌^◌, ◌<◌}
 use native.Mathlib.Decide.{ℕ_discrete}
 use Rattle.bytes.specs.EachByte.{Bytes}
-use Rattle.table.specs.Table.{Table, ruleAt}
-use Rattle.book_judge.specs.Read.{Reading, tableIn, read_of, told}
+use Rattle.table.specs.Table.{Table, rule_at}
+use Rattle.book_judge.specs.Read.{Reading, table_in, read_of, told}
 use Rattle.book_judge.proofs.ReadLaws.{read_done}
-use Rattle.analysis.proofs.SaysLaws.{report-unique, bound-of-unique}
+use Rattle.analysis.proofs.SaysLaws.{report-unique, bound_of_unique}
 use Rattle.report_masks.proofs.BodyMasksLaws.{narrow}
-use Rattle.report_lines.specs.FourLines.{fourLines}
+use Rattle.report_lines.specs.FourLines.{four_lines}
 use Rattle.report_lines.specs.declared.Printed.{Printed}
 use Rattle.report_lines.specs.Lines.{laid, FourLines, TextOf, LinesSay}
 
 -- the precedes masks of a table have 32 bits
 abbrev Narrow : Table → Type 0
-Narrow t = (i : ℕ) → i < t.n → (ruleAt t i).precedes < 2 ^ 32
+Narrow t = (i : ℕ) → i < t.n → (rule_at t i).precedes < 2 ^ 32
 
 four-unique : (t : Table) → Narrow t → {a b : List ℕ} → FourLines t a → FourLines t b → a ≡ b
 four-unique t h p q =
     p.is
-    ∙ (ap₂ (fourLines t) (report-unique t p.report q.report p.says q.says)
-    (bound-of-unique t h _ p.bound q.bound p.bounds q.bounds)
+    ∙ (ap₂ (four_lines t) (report-unique t p.report q.report p.says q.says)
+    (bound_of_unique t h _ p.bound q.bound p.bounds q.bounds)
     ∙ sym q.is)
 
 module _ (s : List ℕ) (bytes : Bytes s) where
   narrow-read : (read_of s).number ≡ 0 → Narrow (read_of s).table
-  unfolding tableIn
+  unfolding table_in
   narrow-read e = subst (λ (r : Reading). Narrow r.table) (sym (read_done s e).reading) (narrow s bytes)
 
   pub text-unique : {a b : List ℕ} → TextOf (read_of s) a → TextOf (read_of s) b → a ≡ b

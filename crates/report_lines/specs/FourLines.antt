@@ -6,25 +6,25 @@ use Rattle.analysis_masks.specs.declared.Bound.{Bound}
 use Rattle.report_text.specs.Text.{letters, line, members}
 
 -- "A refused book prints one line: `refused` number place."
-abbrev pub refusedLine : ℕ → ℕ → List ℕ
-refusedLine number place = line (letters "refused") (number ∷ place ∷ [])
+abbrev pub refused_line : ℕ → ℕ → List ℕ
+refused_line number place = line (letters "refused") (number ∷ place ∷ [])
 
 -- "`ends yes` and the step bound of all rules, or `ends no` and the faulty rule numbers upward"
-unfoldable pub endsLine : ℕ → ℕ → List ℕ
-endsLine faulty bound =
+unfoldable pub ends_line : ℕ → ℕ → List ℕ
+ends_line faulty bound =
     cond (eqb faulty 0) (line (letters "ends yes") (bound ∷ [])) (line (letters "ends no") (members faulty))
 
 -- "`pairs` and the failing count, and if not 0 the first pair and its two culprits"
-unfoldable pub pairsLine : Report → List ℕ
-pairsLine r =
+unfoldable pub pairs_line : Report → List ℕ
+pairs_line r =
     let pair = cond (eqb r.failing 0) [] (r.first ∷ r.second ∷ r.culprit ∷ r.other ∷ []) in
     line (letters "pairs") (r.failing ∷ pair)
 
 -- "`cleared yes` or `cleared no`"
-unfoldable pub clearedLine : Bool → List ℕ
-clearedLine cleared = line (letters (cond cleared "cleared yes" "cleared no")) []
+unfoldable pub cleared_line : Bool → List ℕ
+cleared_line cleared = line (letters (cond cleared "cleared yes" "cleared no")) []
 
 -- "prints four lines", the first of them "`book` n k"
-unfoldable pub fourLines : Table → Report → Bound → List ℕ
-fourLines t r b =
-    line (letters "book") (t.n ∷ t.k ∷ []) ++ endsLine r.faulty b.bound ++ pairsLine r ++ clearedLine r.cleared
+unfoldable pub four_lines : Table → Report → Bound → List ℕ
+four_lines t r b =
+    line (letters "book") (t.n ∷ t.k ∷ []) ++ ends_line r.faulty b.bound ++ pairs_line r ++ cleared_line r.cleared

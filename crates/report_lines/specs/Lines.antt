@@ -9,7 +9,7 @@ use Rattle.analysis_masks.specs.declared.Report.{Report}
 use Rattle.analysis_masks.specs.declared.Bound.{Bound}
 use Rattle.analysis.specs.Says.{ReportSays, BoundSays}
 use Rattle.report_lines.specs.declared.Printed.{Printed}
-use Rattle.report_lines.specs.FourLines.{refusedLine, fourLines}
+use Rattle.report_lines.specs.FourLines.{refused_line, four_lines}
 
 -- the number, the place and the length of a text, and the buffer with the text at its start; a buffer that is too short stays as it
 -- is, and the length is 0
@@ -24,11 +24,11 @@ pub record FourLines (t : Table) (text : List ℕ) : Type 0 where
   pub says : ReportSays t report
   pub bound : Bound
   pub bounds : BoundSays t (2 ^ t.n - 1) bound
-  pub is : text ≡ fourLines t report bound
+  pub is : text ≡ four_lines t report bound
 
 -- what is printed for a reading
 abbrev pub TextOf : Reading → List ℕ → Type 0
-TextOf r = Checked (told r) refusedLine (FourLines r.table)
+TextOf r = Checked (told r) refused_line (FourLines r.table)
 
 -- "It reads a book .. and prints": what a call gives for the book s and the buffer d, and the buffer that it leaves
 pub record LinesSay (s d : List ℕ) (given : Printed × List ℕ) : Type 0 where

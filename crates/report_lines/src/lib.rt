@@ -1,9 +1,9 @@
 // The report program's text: four lines for a book, or one where it is refused.
 ghost use Rattle.std.specs.Prelude.{◌≡◌, ◌∷◌, [], ◌+◌, ◌≤◌, length, take};
-ghost use Rattle.book_judge.specs.Read.{tableIn, read_of, told};
-ghost use Rattle.analysis_masks.specs.AnalysisMasksInner.{reportIn};
+ghost use Rattle.book_judge.specs.Read.{table_in, read_of, told};
+ghost use Rattle.analysis_masks.specs.AnalysisMasksInner.{report_in};
 ghost use Rattle.report_text.specs.Text.{line};
-ghost use Rattle.report_lines.specs.FourLines.{endsLine, pairsLine, clearedLine};
+ghost use Rattle.report_lines.specs.FourLines.{ends_line, pairs_line, cleared_line};
 ghost use Rattle.report_text.specs.ReportTextInner.{Added};
 ghost use Rattle.report_lines.specs.ReportLinesInner.{FoundOf, Texted};
 ghost use Rattle.report_lines.specs.Lines.{laid, FourLines, TextOf, LinesSay};
@@ -37,7 +37,7 @@ fn numbered(out: &mut [u8; 512], at: usize, w: &[u8], a: u8, b: u8) -> usize
 
 fn ends_line(out: &mut [u8; 512], at: usize, faulty: u32, bound: u32) -> usize
     requires { at + 360 ≤ 512 }
-    ensures { Added out.old at (endsLine faulty bound) 360 out.new result }
+    ensures { Added out.old at (ends_line faulty bound) 360 out.new result }
 {
     if faulty == 0 {
         let yes = report_text::word(out, at, b"ends yes");
@@ -52,7 +52,7 @@ fn ends_line(out: &mut [u8; 512], at: usize, faulty: u32, bound: u32) -> usize
 // The marks of a report are not printed.
 fn pairs_line(out: &mut [u8; 512], at: usize, v: Summary) -> usize
     requires { at + 61 ≤ 512 }
-    ensures { Added out.old at (pairsLine (reportIn v [])) 61 out.new result }
+    ensures { Added out.old at (pairs_line (report_in v [])) 61 out.new result }
 {
     let word = report_text::word(out, at, b"pairs");
     let failing = report_text::number(out, word, report_text::wider(v.failing));
@@ -66,7 +66,7 @@ fn pairs_line(out: &mut [u8; 512], at: usize, v: Summary) -> usize
 
 fn cleared_line(out: &mut [u8; 512], at: usize, cleared: bool) -> usize
     requires { at + 12 ≤ 512 }
-    ensures { Added out.old at (clearedLine cleared) 12 out.new result }
+    ensures { Added out.old at (cleared_line cleared) 12 out.new result }
 {
     if cleared {
         return report_text::word(out, at, b"cleared yes\n");
@@ -77,7 +77,7 @@ fn cleared_line(out: &mut [u8; 512], at: usize, cleared: bool) -> usize
 // The report, but for its marks, and the step bound of all rules of a book that was read.
 fn judged(book: &[u8]) -> Found
     requires { (read_of book.now).number ≡ 0 }
-    ensures { FoundOf (tableIn book.now) result }
+    ensures { FoundOf (table_in book.now) result }
 {
     let m = report_masks::taken(book);
     let n = m.n;
@@ -97,7 +97,7 @@ fn judged(book: &[u8]) -> Found
 // The four lines of a book that was read.
 fn four(book: &[u8], out: &mut [u8; 512]) -> usize
     requires { (read_of book.now).number ≡ 0 }
-    ensures { Texted (FourLines (tableIn book.now)) out.old out.new result }
+    ensures { Texted (FourLines (table_in book.now)) out.old out.new result }
 {
     let f = judged(book);
     let v = f.summary;

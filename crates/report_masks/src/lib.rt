@@ -1,14 +1,14 @@
 // The masks of a book that was read, from its bodies where they lie: no table is made of it.
 ghost use Rattle.std.specs.Prelude.{◌≡◌};
-ghost use Rattle.book_judge.specs.Read.{tableIn, read_of};
-ghost use Rattle.analysis.specs.TableMasks.{masksOf};
+ghost use Rattle.book_judge.specs.Read.{table_in, read_of};
+ghost use Rattle.analysis.specs.TableMasks.{masks_of};
 
 use analysis_pairs::Masks;
 
 // The four rows of masks.
 pub fn taken(book: &[u8]) -> Masks
     requires { (read_of book.now).number ≡ 0 }
-    ensures { result ≡ masksOf (tableIn book.now) }
+    ensures { result ≡ masks_of (table_in book.now) }
 {
     let n = rule::count(book[1]);
     let mut watch = [0u32; 32];

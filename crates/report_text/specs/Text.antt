@@ -11,14 +11,14 @@ letters end = []
 letters (c then s) = code c ∷ letters s
 
 -- a number in decimal, of at most f digits
-unfoldable pub digitsTo : ℕ → ℕ → List ℕ
-digitsTo zero x = []
-digitsTo (suc f) x = cond (ltb x 10) ((48 + x) ∷ []) (digitsTo f (x / 10) ++ ((48 + x % 10) ∷ []))
+unfoldable pub digits_to : ℕ → ℕ → List ℕ
+digits_to zero x = []
+digits_to (suc f) x = cond (ltb x 10) ((48 + x) ∷ []) (digits_to f (x / 10) ++ ((48 + x % 10) ∷ []))
 
 -- numbers, each after one space; ten digits hold every number below 2 ^ 32
 unfoldable pub spaced : List ℕ → List ℕ
 spaced [] = []
-spaced (x ∷ xs) = letters " " ++ digitsTo 10 x ++ spaced xs
+spaced (x ∷ xs) = letters " " ++ digits_to 10 x ++ spaced xs
 
 -- a line of a word and numbers
 unfoldable pub line : List ℕ → List ℕ → List ℕ

@@ -1,7 +1,7 @@
 // A text that grows at its end in a lent buffer: letters, words and numbers. It is the buffer's first `at` bytes, and each function
 // gives where it ends then.
 ghost use Rattle.std.specs.Prelude.{◌≡◌, ◌∷◌, [], ◌+◌, ◌≤◌, length};
-ghost use Rattle.report_text.specs.Text.{digitsTo, spaced, members};
+ghost use Rattle.report_text.specs.Text.{digits_to, spaced, members};
 ghost use Rattle.report_text.specs.ReportTextInner.{Added};
 
 pub fn wider(x: u16) -> u32
@@ -30,7 +30,7 @@ pub fn push(out: &mut [u8; 512], at: usize, x: u8) -> usize
 // A number in decimal, of at most f digits.
 fn digits(out: &mut [u8; 512], at: usize, x: u32, f: usize) -> usize
     requires { at + f ≤ 512 }
-    ensures { Added out.old at (digitsTo f x) f out.new result }
+    ensures { Added out.old at (digits_to f x) f out.new result }
 {
     if f == 0 {
         return at;

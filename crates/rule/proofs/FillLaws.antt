@@ -13,7 +13,7 @@ use lib.Dec.{ltb}
 use borrow.Author.Count.{below_more}
 use borrow.Author.Tests.{le-ltb}
 use Rattle.mask.specs.Search.{some}
-use Rattle.mask.proofs.SearchLaws.{some_same, some-cut, lt-or-ge}
+use Rattle.mask.proofs.SearchLaws.{some_same, some-cut, lt-or_ge}
 use Rattle.rule.specs.Fill.{upto, filled}
 
 module _ {A : Type 0} where
@@ -34,11 +34,11 @@ module _ {A : Type 0} where
       ∙ sym (append_snoc (upto n f) (f n) (replicate k d))
       ∙ ap (λ (j : ℕ). upto j f ++ replicate k d) (sym (add-one n))
 
-  pub getD-upto : (n : ℕ) (f : ℕ → A) (d : A) (i : ℕ) → i < n → get_or (upto n f) i d ≡ f i
-  getD-upto zero f d i h = absurd (omega arith)
-  getD-upto (suc n) f d i h =
+  pub get_or-upto : (n : ℕ) (f : ℕ → A) (d : A) (i : ℕ) → i < n → get_or (upto n f) i d ≡ f i
+  get_or-upto zero f d i h = absurd (omega arith)
+  get_or-upto (suc n) f d i h =
       below_more (λ (k : ℕ). get_or (upto n f ++ (f n ∷ [])) k d ≡ f k) n
-      (λ k g. get_or-append (upto n f) (f n ∷ []) d k (omega (arith, length-upto n f)) ∙ getD-upto n f d k g)
+      (λ k g. get_or-append (upto n f) (f n ∷ []) d k (omega (arith, length-upto n f)) ∙ get_or-upto n f d k g)
       (get_or_at (upto n f) (f n) [] d n (length-upto n f))
       i
       (rw add-one h)
@@ -48,13 +48,13 @@ module _ {A : Type 0} where
   upto-same (suc n) f g h = rw (upto-same n f g (λ i l. h i (omega arith)), h n (omega arith))
 
   -- a filled slot
-  pub getD-filled : (N : ℕ) (d : A) (f : ℕ → A) (n : ℕ) (e : A) (i : ℕ) → i < n → get_or (filled N d f n) i e ≡ f i
-  getD-filled N d f n e i h =
-      get_or-append (upto n f) (replicate (N - n) d) e i (omega (arith, length-upto n f)) ∙ getD-upto n f e i h
+  pub get_or-filled : (N : ℕ) (d : A) (f : ℕ → A) (n : ℕ) (e : A) (i : ℕ) → i < n → get_or (filled N d f n) i e ≡ f i
+  get_or-filled N d f n e i h =
+      get_or-append (upto n f) (replicate (N - n) d) e i (omega (arith, length-upto n f)) ∙ get_or-upto n f e i h
 
   -- a slot that is left
-  pub getD-left : (N : ℕ) (d : A) (f : ℕ → A) (n : ℕ) (e : A) (i : ℕ) → n ≤ i → i < N → get_or (filled N d f n) i e ≡ d
-  getD-left N d f n e i h g =
+  pub get_or-left : (N : ℕ) (d : A) (f : ℕ → A) (n : ℕ) (e : A) (i : ℕ) → n ≤ i → i < N → get_or (filled N d f n) i e ≡ d
+  get_or-left N d f n e i h g =
       let k : i ≡ length (upto n f) + (i - n) = omega (arith, length-upto n f) in
       ap (λ (j : ℕ). get_or (filled N d f n) j e) k
       ∙ get_or-append-add (upto n f) (replicate (N - n) d) (i - n) e
@@ -64,19 +64,19 @@ module _ {A : Type 0} where
   pub each-filled : (P : A → Type 0) (N : ℕ) (d : A) (f : ℕ → A) (n : ℕ) (e : A) → P d → ((j : ℕ) → j < n → P (f j))
       → (j : ℕ) → j < N → P (get_or (filled N d f n) j e)
   each-filled P N d f n e none each j l =
-      ⊎_elim (λ h. subst P (sym (getD-filled N d f n e j h)) (each j h)) (λ h. subst P (sym (getD-left N d f n e j h l)) none)
-      (lt-or-ge j n)
+      ⊎_elim (λ h. subst P (sym (get_or-filled N d f n e j h)) (each j h)) (λ h. subst P (sym (get_or-left N d f n e j h l)) none)
+      (lt-or_ge j n)
 
   -- a search through filled slots is one through what fills them
   pub some-filled : (N : ℕ) (d : A) (f : ℕ → A) (n c : ℕ) (p : A → Bool) → c ≤ n
       → some c (λ j. p (get_or (filled N d f n) j d)) ≡ some c (λ j. p (f j))
   some-filled N d f n c p few =
-      some_same c (λ j. p (get_or (filled N d f n) j d)) (λ j. p (f j)) (λ j l. ap p (getD-filled N d f n d j (le_trans l few)))
+      some_same c (λ j. p (get_or (filled N d f n) j d)) (λ j. p (f j)) (λ j l. ap p (get_or-filled N d f n d j (le_trans l few)))
 
   -- and one through all slots, with c of them counted, where a slot that is left is not picked
   pub slots_filled : (N : ℕ) (d : A) (f : ℕ → A) (n c : ℕ) (p : Bool → A → Bool) → n ≤ N → c ≤ n → p false d ≡ false
       → some N (λ j. p (ltb j c) (get_or (filled N d f n) j d)) ≡ some n (λ j. p (ltb j c) (f j))
   slots_filled N d f n c p room few none =
       some-cut N n (λ j. p (ltb j c) (get_or (filled N d f n) j d)) (λ j. p (ltb j c) (f j)) room
-      (λ j l. ap (p (ltb j c)) (getD-filled N d f n d j l))
-      (λ j g l. ap₂ p (le-ltb j c (le_trans few g)) (getD-left N d f n d j g l) ∙ none)
+      (λ j l. ap (p (ltb j c)) (get_or-filled N d f n d j l))
+      (λ j g l. ap₂ p (le-ltb j c (le_trans few g)) (get_or-left N d f n d j g l) ∙ none)

@@ -9,11 +9,11 @@ use lib.Dec.{ltb, eqb}
 use lib.ListN.{get_or}
 use borrow.Author.Tests.{lt-ltb, ltb-false, eqb-true, eq-eqb, not-false}
 use Rattle.mask.specs.Search.{some}
-use Rattle.mask.proofs.SearchLaws.{some-false, or-false-both}
+use Rattle.mask.proofs.SearchLaws.{some_false, or_false_both}
 use Rattle.rule.specs.declared.Assign.{Assign}
 use Rattle.rule.specs.declared.Rule.{Rule}
-use Rattle.rule.specs.Uses.{usesK, usesA, usesB, usesP, testAt, assignAt}
-use Rattle.rule.specs.Numbers.{outOfRange, notZero, notZeroZ, assignFormBad, formsBad, testFormBad, testSlotBad, assignSlotBad}
+use Rattle.rule.specs.Uses.{uses_k, uses_a, uses_b, uses_p, test_at, assign_at}
+use Rattle.rule.specs.Numbers.{out_of_range, not_zero, not_zero_z, assign_form_bad, forms_bad, test_form_bad, test_slot_bad, assign_slot_bad}
 use Rattle.rule.proofs.NumbersLaws.{Clean, counted}
 use Rattle.rule.specs.RuleInner.{Counted}
 use Rattle.rule.proofs.CellsBelowLaws.{targets-below}
@@ -22,36 +22,36 @@ use Rattle.rule_act.specs.RuleActInner.{Steppable}
 
 -- ---- 7: the constants are in bounds
 
-unused : (x : ℕ) → notZero x ≡ false → x ≡ 0
+unused : (x : ℕ) → not_zero x ≡ false → x ≡ 0
 unused x e = eqb-true x 0 (not-false (eqb x 0) e)
 
 -- the third, the sixth and the seventh test
-tests-false : (a b c d e f g : Bool) → (a || b || c || d || e || f || g) ≡ false
+tests_false : (a b c d e f g : Bool) → (a || b || c || d || e || f || g) ≡ false
     → (c ≡ false) × (f ≡ false) × (g ≡ false)
-tests-false a b c d e f g z =
-    let u = or-false-both (a || b || c || d || e || f) g z in
-    let v = or-false-both (a || b || c || d || e) f u.0 in
-    let w = or-false-both (a || b || c || d) e v.0 in
-    let x = or-false-both (a || b || c) d w.0 in
-    ((or-false-both (a || b) c x.0).1, v.1, u.1)
+tests_false a b c d e f g z =
+    let u = or_false_both (a || b || c || d || e || f) g z in
+    let v = or_false_both (a || b || c || d || e) f u.0 in
+    let w = or_false_both (a || b || c || d) e v.0 in
+    let x = or_false_both (a || b || c) d w.0 in
+    ((or_false_both (a || b) c x.0).1, v.1, u.1)
 
-factor : (p q : ℕ) (uses : Bool) → (not uses && (notZero p || notZero q)) ≡ false
+factor : (p q : ℕ) (uses : Bool) → (not uses && (not_zero p || not_zero q)) ≡ false
     → (uses && (ltb 1000000 p || ltb q 1 || ltb 1000000 q)) ≡ false → (p ≤ 1000000) × (uses ≡ true → 1 ≤ q)
 factor p q true f g =
-    let u = or-false-both (ltb 1000000 p || ltb q 1) (ltb 1000000 q) g in
-    let v = or-false-both (ltb 1000000 p) (ltb q 1) u.0 in
+    let u = or_false_both (ltb 1000000 p || ltb q 1) (ltb 1000000 q) g in
+    let v = or_false_both (ltb 1000000 p) (ltb q 1) u.0 in
     (ltb-false 1000000 p v.0, λ e. ltb-false q 1 v.1)
 factor p q false f g =
-    let z : p ≡ 0 = unused p (or-false-both (notZero p) (notZero q) f).0 in
+    let z : p ≡ 0 = unused p (or_false_both (not_zero p) (not_zero q) f).0 in
     (omega arith, λ e. absurd (false≢true e))
 
-bounded : (x : Assign) → assignFormBad x ≡ false → InBounds x
+bounded : (x : Assign) → assign_form_bad x ≡ false → InBounds x
 bounded x f =
-    let u = tests-false (ltb 4 x.operation) (not (usesK x) && notZeroZ x.k) (outOfRange x.k)
-    (not (usesA x) && notZero x.a) (not (usesB x) && notZero x.b)
-    (not (usesP x) && (notZero x.p || notZero x.q))
-    (usesP x && (ltb 1000000 x.p || ltb x.q 1 || ltb 1000000 x.q)) f in
-    let v = factor x.p x.q (usesP x) u.1 u.2 in
+    let u = tests_false (ltb 4 x.operation) (not (uses_k x) && not_zero_z x.k) (out_of_range x.k)
+    (not (uses_a x) && not_zero x.a) (not (uses_b x) && not_zero x.b)
+    (not (uses_p x) && (not_zero x.p || not_zero x.q))
+    (uses_p x && (ltb 1000000 x.p || ltb x.q 1 || ltb 1000000 x.q)) f in
+    let v = factor x.p x.q (uses_p x) u.1 u.2 in
     record { constant = u.0; times = v.0; over = λ e. v.1 (eq-eqb x.operation 4 e) }
 
 -- slot j of those counted
@@ -59,16 +59,16 @@ counted-slot : (c f s : Bool) → cond c f s ≡ false → c ≡ true → f ≡ 
 counted-slot true f s e h = e
 counted-slot false f s e h = absurd (false≢true h)
 
-forms-in : (r : Rule) → formsBad r ≡ false → (j : ℕ) → j < 8 → j < r.a → assignFormBad (assignAt r j) ≡ false
-unfolding formsBad
-forms-in r f j l m =
-    let tests = some 8 (λ j. cond (ltb j r.t) (testFormBad (testAt r j)) (testSlotBad (testAt r j))) in
-    let assigns : ℕ → Bool = λ j. cond (ltb j r.a) (assignFormBad (assignAt r j))
-    (assignSlotBad (assignAt r j)) in
-    let u = or-false-both (tests || some 8 assigns)
-    (some 16 (λ j. not (ltb j r.m) && notZero (get_or r.name j 0))) f in
-    counted-slot (ltb j r.a) (assignFormBad (assignAt r j)) (assignSlotBad (assignAt r j))
-    (some-false 8 assigns (or-false-both tests (some 8 assigns) u.0).1 j l)
+forms_in_lem : (r : Rule) → forms_bad r ≡ false → (j : ℕ) → j < 8 → j < r.a → assign_form_bad (assign_at r j) ≡ false
+unfolding forms_bad
+forms_in_lem r f j l m =
+    let tests = some 8 (λ j. cond (ltb j r.t) (test_form_bad (test_at r j)) (test_slot_bad (test_at r j))) in
+    let assigns : ℕ → Bool = λ j. cond (ltb j r.a) (assign_form_bad (assign_at r j))
+    (assign_slot_bad (assign_at r j)) in
+    let u = or_false_both (tests || some 8 assigns)
+    (some 16 (λ j. not (ltb j r.m) && not_zero (get_or r.name j 0))) f in
+    counted-slot (ltb j r.a) (assign_form_bad (assign_at r j)) (assign_slot_bad (assign_at r j))
+    (some_false 8 assigns (or_false_both tests (some 8 assigns) u.0).1 j l)
     (lt-ltb j r.a m)
 
 -- ---- a rule with no number can be stepped
@@ -79,7 +79,7 @@ steppable n k rules i r l h =
     record {
       tests = c.tests;
       assigns = c.assigns;
-      bounded = λ j m. bounded (assignAt r j) (forms-in r h.forms j (le_trans m c.assigns) m);
+      bounded = λ j m. bounded (assign_at r j) (forms_in_lem r h.forms j (le_trans m c.assigns) m);
       targets = λ j m. le_trans (targets-below n k r h.cells j m) l;
       apart = h.targets;
     }

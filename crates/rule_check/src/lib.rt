@@ -1,17 +1,17 @@
 // The numbers 5 to 9 of a rule where its bytes lie, in a table or in a book.
 ghost use Rattle.std.specs.Prelude.{◌≡◌, ◌+◌, ◌*◌, ◌≤◌, ◌<◌, length};
 ghost use Rattle.mask.specs.Search.{some};
-ghost use Rattle.rule.specs.Numbers.{testCellBad, assignCellBad, letterBad, countsBad};
+ghost use Rattle.rule.specs.Numbers.{test_cell_bad, assign_cell_bad, letter_bad, counts_bad};
 ghost use Rattle.mask.specs.Mask.{beyond};
 ghost use Rattle.bytes.specs.Little.{byte_at, u32_at};
-ghost use Rattle.rule_read.specs.Parts.{testIn, assignIn, ruleOf};
-ghost use Rattle.rule_check.specs.RuleCheckInner.{Lies, Fitted, testBad, assignBad, letterLeft, takenAt, takenIn};
-ghost use Rattle.rule_check.specs.RuleCheckInner.{cells_in, formsIn, twiceIn, lettersIn, numberWith};
+ghost use Rattle.rule_read.specs.Parts.{test_in, assign_in, rule_of};
+ghost use Rattle.rule_check.specs.RuleCheckInner.{Lies, Fitted, test_bad, assign_bad, letter_left, taken_at, taken_in};
+ghost use Rattle.rule_check.specs.RuleCheckInner.{cells_in, forms_in, twice_in, letters_in, number_with};
 
 // Whether one of the first i names of the row is this one.
 pub fn taken(names: &[u64; 64], i: usize, low: u64, high: u64) -> bool
     requires { i ≤ 32 }
-    ensures { result ≡ takenIn names.now i low high }
+    ensures { result ≡ taken_in names.now i low high }
 {
     let mut found = false;
     for h in 0..i {
@@ -23,7 +23,7 @@ pub fn taken(names: &[u64; 64], i: usize, low: u64, high: u64) -> bool
 // 5 of the rule whose head is at `at`.
 pub fn counts_bad(s: &[u8], at: usize) -> bool
     requires { at + 12 ≤ length s.now }
-    ensures { result ≡ countsBad (ruleOf s.now at 0 0 0) }
+    ensures { result ≡ counts_bad (rule_of s.now at 0 0 0) }
 {
     let t = s[at + 8];
     let a = s[at + 9];
@@ -34,7 +34,7 @@ pub fn counts_bad(s: &[u8], at: usize) -> bool
 
 fn test_cells_bad(s: &[u8], p: usize, t: usize, k: u8) -> bool
     requires { (t ≤ 8) × (p + 12 * t ≤ length s.now) }
-    ensures { result ≡ some t (λ j. testCellBad k (testIn s.now (p + 12 * j))) }
+    ensures { result ≡ some t (λ j. test_cell_bad k (test_in s.now (p + 12 * j))) }
 {
     let mut bad = false;
     for j in 0..t {
@@ -46,7 +46,7 @@ fn test_cells_bad(s: &[u8], p: usize, t: usize, k: u8) -> bool
 
 fn assign_cells_bad(s: &[u8], p: usize, a: usize, k: u8) -> bool
     requires { (a ≤ 8) × (p + 20 * a ≤ length s.now) }
-    ensures { result ≡ some a (λ j. assignCellBad k (assignIn s.now (p + 20 * j))) }
+    ensures { result ≡ some a (λ j. assign_cell_bad k (assign_in s.now (p + 20 * j))) }
 {
     let mut bad = false;
     for j in 0..a {
@@ -58,7 +58,7 @@ fn assign_cells_bad(s: &[u8], p: usize, a: usize, k: u8) -> bool
 
 fn test_forms_bad(s: &[u8], p: usize, t: usize, room: usize) -> bool
     requires { (room ≤ 8) × (p + 12 * room ≤ length s.now) }
-    ensures { result ≡ some room (testBad s.now p t) }
+    ensures { result ≡ some room (test_bad s.now p t) }
 {
     let mut bad = false;
     for j in 0..room {
@@ -73,7 +73,7 @@ fn test_forms_bad(s: &[u8], p: usize, t: usize, room: usize) -> bool
 
 fn assign_forms_bad(s: &[u8], p: usize, a: usize, room: usize) -> bool
     requires { (room ≤ 8) × (p + 20 * room ≤ length s.now) }
-    ensures { result ≡ some room (assignBad s.now p a) }
+    ensures { result ≡ some room (assign_bad s.now p a) }
 {
     let mut bad = false;
     for j in 0..room {
@@ -88,7 +88,7 @@ fn assign_forms_bad(s: &[u8], p: usize, a: usize, room: usize) -> bool
 
 fn letters_left(s: &[u8], p: usize, m: usize, room: usize) -> bool
     requires { (room ≤ 16) × (p + room ≤ length s.now) }
-    ensures { result ≡ some room (letterLeft s.now p m) }
+    ensures { result ≡ some room (letter_left s.now p m) }
 {
     let mut bad = false;
     for j in 0..room {
@@ -99,7 +99,7 @@ fn letters_left(s: &[u8], p: usize, m: usize, room: usize) -> bool
 
 fn letters_bad(s: &[u8], p: usize, m: usize) -> bool
     requires { (m ≤ 16) × (p + m ≤ length s.now) }
-    ensures { result ≡ some m (λ j. letterBad (byte_at s.now (p + j))) }
+    ensures { result ≡ some m (λ j. letter_bad (byte_at s.now (p + j))) }
 {
     let mut bad = false;
     for j in 0..m {
@@ -111,7 +111,7 @@ fn letters_bad(s: &[u8], p: usize, m: usize) -> bool
 // Whether assignment j has the target of an earlier one.
 fn target_taken(s: &[u8], p: usize, j: usize) -> bool
     requires { (j < 8) × (p + 20 * j < length s.now) }
-    ensures { result ≡ takenAt s.now p j }
+    ensures { result ≡ taken_at s.now p j }
 {
     let y = s[p + 20 * j];
     let mut bad = false;
@@ -123,7 +123,7 @@ fn target_taken(s: &[u8], p: usize, j: usize) -> bool
 
 fn targets_twice(s: &[u8], p: usize, a: usize) -> bool
     requires { (a ≤ 8) × (p + 20 * a ≤ length s.now) }
-    ensures { result ≡ some a (takenAt s.now p) }
+    ensures { result ≡ some a (taken_at s.now p) }
 {
     let mut bad = false;
     for j in 0..a {
@@ -156,7 +156,7 @@ fn cells_in(s: &[u8], at: usize, t: usize, a: usize, m: usize, n: u8, k: u8) -> 
 // 7 of that rule.
 fn forms_in(s: &[u8], at: usize, t: usize, a: usize, m: usize) -> bool
     requires { Fitted s.now at t a m }
-    ensures { result ≡ formsIn s.now at t a m }
+    ensures { result ≡ forms_in s.now at t a m }
 {
     let ct = rule_read::count_at(s, at + 8);
     let ca = rule_read::count_at(s, at + 9);
@@ -169,7 +169,7 @@ fn forms_in(s: &[u8], at: usize, t: usize, a: usize, m: usize) -> bool
 // 8 of that rule.
 fn twice_in(s: &[u8], at: usize, t: usize, a: usize, m: usize) -> bool
     requires { Fitted s.now at t a m }
-    ensures { result ≡ twiceIn s.now at t }
+    ensures { result ≡ twice_in s.now at t }
 {
     targets_twice(s, at + 12 + 12 * t, rule_read::count_at(s, at + 9))
 }
@@ -177,7 +177,7 @@ fn twice_in(s: &[u8], at: usize, t: usize, a: usize, m: usize) -> bool
 // 9 of that rule, first half.
 fn letters_in(s: &[u8], at: usize, t: usize, a: usize, m: usize) -> bool
     requires { Fitted s.now at t a m }
-    ensures { result ≡ lettersIn s.now at t a }
+    ensures { result ≡ letters_in s.now at t a }
 {
     letters_bad(
         s,
@@ -189,7 +189,7 @@ fn letters_in(s: &[u8], at: usize, t: usize, a: usize, m: usize) -> bool
 // Its number, or 0, where it is known whether an earlier rule has its name.
 pub fn number_in(s: &[u8], at: usize, t: usize, a: usize, m: usize, n: u8, k: u8, taken: bool) -> u8
     requires { Lies s.now at t a m × (n ≤ 32) × (k ≤ 32) }
-    ensures { result ≡ numberWith n k taken (ruleOf s.now at t a m) }
+    ensures { result ≡ number_with n k taken (rule_of s.now at t a m) }
 {
     if counts_bad(s, at) {
         return 5;

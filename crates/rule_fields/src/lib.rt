@@ -1,24 +1,24 @@
 // What 6, 7 and 9 say of one test, one assignment and one letter, and 11 and 16 of one amount.
 ghost use Rattle.std.specs.Prelude.{◌≡◌};
-ghost use Rattle.rule.specs.Numbers.{outOfRange, testCellBad, assignCellBad, testFormBad, assignFormBad, testSlotBad, assignSlotBad, letterBad};
+ghost use Rattle.rule.specs.Numbers.{out_of_range, test_cell_bad, assign_cell_bad, test_form_bad, assign_form_bad, test_slot_bad, assign_slot_bad, letter_bad};
 
 use rule::{Assign, Test};
 
 // Whether an amount is out of range.
 pub fn out_of_range(v: i64) -> bool
-    ensures { result ≡ outOfRange v }
+    ensures { result ≡ out_of_range v }
 {
     (v < -1000000000000) | (1000000000000 < v)
 }
 
 pub fn test_cell_bad(x: Test, k: u8) -> bool
-    ensures { result ≡ testCellBad k x }
+    ensures { result ≡ test_cell_bad k x }
 {
     (k <= x.left) | ((x.kind == 1) & (k <= x.right))
 }
 
 pub fn assign_cell_bad(x: Assign, k: u8) -> bool
-    ensures { result ≡ assignCellBad k x }
+    ensures { result ≡ assign_cell_bad k x }
 {
     let op = x.operation;
     (k <= x.target)
@@ -27,7 +27,7 @@ pub fn assign_cell_bad(x: Assign, k: u8) -> bool
 }
 
 pub fn test_form_bad(x: Test) -> bool
-    ensures { result ≡ testFormBad x }
+    ensures { result ≡ test_form_bad x }
 {
     let v = x.constant;
     let cell = x.kind == 1;
@@ -39,14 +39,14 @@ pub fn test_form_bad(x: Test) -> bool
 }
 
 pub fn test_slot_bad(x: Test) -> bool
-    ensures { result ≡ testSlotBad x }
+    ensures { result ≡ test_slot_bad x }
 {
     let v = x.constant;
     (x.left != 0) | (x.comparison != 0) | (x.kind != 0) | (x.right != 0) | ((v < 0) | (0 < v))
 }
 
 pub fn assign_form_bad(x: Assign) -> bool
-    ensures { result ≡ assignFormBad x }
+    ensures { result ≡ assign_form_bad x }
 {
     let v = x.k;
     let op = x.operation;
@@ -66,7 +66,7 @@ pub fn assign_form_bad(x: Assign) -> bool
 }
 
 pub fn assign_slot_bad(x: Assign) -> bool
-    ensures { result ≡ assignSlotBad x }
+    ensures { result ≡ assign_slot_bad x }
 {
     let v = x.k;
     (x.target != 0)
@@ -79,7 +79,7 @@ pub fn assign_slot_bad(x: Assign) -> bool
 }
 
 pub fn letter_bad(b: u8) -> bool
-    ensures { result ≡ letterBad b }
+    ensures { result ≡ letter_bad b }
 {
     !(((97 <= b) & (b <= 122)) | ((48 <= b) & (b <= 57)) | (b == 45))
 }

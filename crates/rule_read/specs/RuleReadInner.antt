@@ -5,8 +5,8 @@ use Rattle.rule.specs.Fill.{filled}
 use Rattle.rule_read.specs.declared.Counts.{Counts}
 
 -- n masks, the first at `at`, each next one `step` bytes on
-abbrev pub columnIn : List ℕ → ℕ → ℕ → ℕ → List ℕ
-columnIn s at step n = filled 32 0 (λ i. u32_at s (at + step * i)) n
+abbrev pub column_in : List ℕ → ℕ → ℕ → ℕ → List ℕ
+column_in s at step n = filled 32 0 (λ i. u32_at s (at + step * i)) n
 
 -- the counts that stand in the head of the rule at i; a byte is below 256
 pub record CountsAt (s : List ℕ) (i : ℕ) (c : Counts) : Type 0 where

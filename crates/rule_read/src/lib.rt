@@ -1,8 +1,8 @@
 // Reads one test, one assignment, a name, counts or a row of masks out of bytes.
 ghost use Rattle.std.specs.Prelude.{◌≡◌, ℕ, ◌+◌, ◌*◌, ◌≤◌, ◌<◌, length};
 ghost use Rattle.bytes.specs.Little.{byte_at};
-ghost use Rattle.rule_read.specs.RuleReadInner.{columnIn, CountsAt};
-ghost use Rattle.rule_read.specs.Parts.{testIn, assignIn, nameIn};
+ghost use Rattle.rule_read.specs.RuleReadInner.{column_in, CountsAt};
+ghost use Rattle.rule_read.specs.Parts.{test_in, assign_in, name_in};
 
 use rule::{Assign, Test};
 
@@ -16,7 +16,7 @@ pub struct Counts {
 
 pub fn read_test(s: &[u8], at: usize) -> Test
     requires { at + 12 ≤ length s.now }
-    ensures { result ≡ testIn s.now at }
+    ensures { result ≡ test_in s.now at }
 {
     let constant = bytes::i64_at(s, at + 4);
     Test {
@@ -30,7 +30,7 @@ pub fn read_test(s: &[u8], at: usize) -> Test
 
 pub fn read_assign(s: &[u8], at: usize) -> Assign
     requires { at + 20 ≤ length s.now }
-    ensures { result ≡ assignIn s.now at }
+    ensures { result ≡ assign_in s.now at }
 {
     let p = bytes::u32_at(s, at + 12);
     let q = bytes::u32_at(s, at + 16);
@@ -48,7 +48,7 @@ pub fn read_assign(s: &[u8], at: usize) -> Assign
 
 pub fn read_name(s: &[u8], at: usize, m: usize) -> [u8; 16]
     requires { (m ≤ 16) × (at + m ≤ length s.now) }
-    ensures { result ≡ nameIn s.now at m }
+    ensures { result ≡ name_in s.now at m }
 {
     let mut out = [0u8; 16];
     for j in 0..m {
@@ -83,7 +83,7 @@ pub fn counts_at(s: &[u8], at: usize) -> Counts
 // The masks that stand at `at` and every `step` bytes after it, n of them; 0 past them.
 pub fn column(s: &[u8], at: usize, step: usize, n: usize) -> [u32; 32]
     requires { (n ≤ 32) × ((i : ℕ) → i < n → at + step * i + 4 ≤ length s.now) }
-    ensures { result ≡ columnIn s.now at step n }
+    ensures { result ≡ column_in s.now at step n }
 {
     let mut q = [0u32; 32];
     for i in 0..n {

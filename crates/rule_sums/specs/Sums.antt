@@ -3,7 +3,7 @@ use Rattle.std.specs.Prelude.{Bool, false, not, cond, ◌||◌, List, [], ◌∷
 use Rattle.std.specs.Int.Signed.{lt_z, le_z, quot_z}
 use Rattle.rule.specs.declared.Test.{Test}
 use Rattle.rule.specs.declared.Assign.{Assign}
-use Rattle.rule.specs.Uses.{usesRight}
+use Rattle.rule.specs.Uses.{uses_right}
 
 -- the amount of cell c
 abbrev pub at : List ℤ → ℕ → ℤ
@@ -19,7 +19,7 @@ compares code v w = get_or (not (differs v w) ∷ differs v w ∷ lt_z v w ∷ l
 
 -- "right kind (0 constant, 1 cell), right cell, constant"
 unfoldable pub holds : Test → List ℤ → Bool
-holds x cells = compares x.comparison (at cells x.left) (cond (usesRight x) (at cells x.right) x.constant)
+holds x cells = compares x.comparison (at cells x.left) (cond (uses_right x) (at cells x.right) x.constant)
 
 -- "A x p / q, cut toward zero"
 unfoldable pub scaled : ℤ → ℕ → ℕ → ℤ

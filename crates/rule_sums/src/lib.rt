@@ -1,6 +1,6 @@
 // One test and one right side, over 32 lent cells of whole pence.
 ghost use Rattle.std.specs.Prelude.{◌≡◌, false, ◌≤◌, ◌+ℤ◌, ◌-ℤ◌};
-ghost use Rattle.rule.specs.Numbers.{outOfRange};
+ghost use Rattle.rule.specs.Numbers.{out_of_range};
 ghost use Rattle.rule_sums.specs.Sums.{at, compares, holds, scaled, value_of};
 ghost use Rattle.rule_sums.specs.RuleSumsInner.{InRange, InBounds};
 
@@ -44,14 +44,14 @@ pub fn holds(x: Test, cells: &[i64; 32]) -> bool
 }
 
 fn sum(v: i64, w: i64) -> i64
-    requires { (outOfRange v ≡ false) × (outOfRange w ≡ false) }
+    requires { (out_of_range v ≡ false) × (out_of_range w ≡ false) }
     ensures { result ≡ v +ℤ w }
 {
     v + w
 }
 
 fn less(v: i64, w: i64) -> i64
-    requires { (outOfRange v ≡ false) × (outOfRange w ≡ false) }
+    requires { (out_of_range v ≡ false) × (out_of_range w ≡ false) }
     ensures { result ≡ v -ℤ w }
 {
     v - w
@@ -59,7 +59,7 @@ fn less(v: i64, w: i64) -> i64
 
 // The exact product first, then the cut toward zero.
 fn scaled(v: i64, p: u32, q: u32) -> i64
-    requires { (outOfRange v ≡ false) × (p ≤ 1000000) × (1 ≤ q) }
+    requires { (out_of_range v ≡ false) × (p ≤ 1000000) × (1 ≤ q) }
     ensures { result ≡ scaled v p q }
 {
     v * (p as i64) / (q as i64)

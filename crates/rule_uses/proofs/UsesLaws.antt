@@ -7,7 +7,7 @@ use lib.Dec.{eqb, ltb}
 use lib.ListN.{get_or}
 use borrow.Author.Tests.{lt-ltb, eqb-true, ltb-true}
 use Rattle.mask.specs.Search.{some}
-use Rattle.mask.proofs.SearchLaws.{same_test, and-true-both, Found, some-elim}
+use Rattle.mask.proofs.SearchLaws.{same_test, and_true_both, Found, some-elim}
 use Rattle.rule.specs.Fill.{filled}
 use Rattle.rule.proofs.FillLaws.{some-filled}
 
@@ -16,14 +16,14 @@ pub low : (c : ℕ) → c < 32 → (x : ℕ) → eqb x c ≡ (ltb x 32 && eqb x 
 low c l x =
     same_test (eqb x c) (ltb x 32 && eqb x c)
     (λ e. ap₂ ◌&&◌ (lt-ltb x 32 (omega (arith, eqb-true x c e))) e)
-    (λ e. (and-true-both (ltb x 32) (eqb x c) e).1)
+    (λ e. (and_true_both (ltb x 32) (eqb x c) e).1)
 
 -- and one that is not is no x below 32
 pub high : (c : ℕ) → 32 ≤ c → (x : ℕ) → false ≡ (ltb x 32 && eqb x c)
 high c l x =
     same_test false (ltb x 32 && eqb x c) (λ e. absurd (false≢true e))
     (λ e.
-    let p = and-true-both (ltb x 32) (eqb x c) e in
+    let p = and_true_both (ltb x 32) (eqb x c) e in
     absurd (omega (arith, ltb-true x 32 p.0, eqb-true x c p.1)))
 
 -- a test of both parts of a choice, taken out

@@ -7,50 +7,50 @@ use native.Mathlib.Nat.{mul-le-mul_left, mul-suc}
 use native.Mathlib.Omega.{arith}
 use lib.ListN.{length, get_or}
 use lib.Seq.{ext_get_or}
-use Rattle.mask.proofs.SearchLaws.{lt-or-ge}
+use Rattle.mask.proofs.SearchLaws.{lt-or_ge}
 use Rattle.bytes.proofs.StandsLaws.{Stands}
 use Rattle.bytes.specs.Joined.{joined}
 use Rattle.bytes.proofs.JoinedLaws.{length-joined, stands-joined, stands-each}
 use Rattle.rule.specs.Fill.{filled}
-use Rattle.rule.proofs.FillLaws.{length-filled, getD-filled, getD-left}
+use Rattle.rule.proofs.FillLaws.{length-filled, get_or-filled, get_or-left}
 
 -- N slots whose first n are f 0, f 1, .. and whose others hold d; o stands past the end
-pub slots-are : {A : Type 0} (N : ℕ) (d o : A) (f : ℕ → A) (n : ℕ) (xs : List A) → n ≤ N → length xs ≡ N
+pub slots_are : {A : Type 0} (N : ℕ) (d o : A) (f : ℕ → A) (n : ℕ) (xs : List A) → n ≤ N → length xs ≡ N
     → ((j : ℕ) → j < n → f j ≡ get_or xs j o) → ((j : ℕ) → n ≤ j → j < N → get_or xs j o ≡ d) → filled N d f n ≡ xs
-slots-are N d o f n xs l e first rest =
+slots_are N d o f n xs l e first rest =
     ext_get_or o (filled N d f n) xs (length-filled N d f n l ∙ sym e)
     (λ j h.
-    ⊎_elim (λ g. getD-filled N d f n o j g ∙ first j g)
-    (λ g. let k : j < N = omega (arith, length-filled N d f n l) in getD-left N d f n o j g k ∙ sym (rest j g k))
-    (lt-or-ge j n))
+    ⊎_elim (λ g. get_or-filled N d f n o j g ∙ first j g)
+    (λ g. let k : j < N = omega (arith, length-filled N d f n l) in get_or-left N d f n o j g k ∙ sym (rest j g k))
+    (lt-or_ge j n))
 
 module _ {A : Type 0} (s : List ℕ) (N w : ℕ) (d : A) (B : A → List ℕ) (R : ℕ → A)
     (wide : (x : A) → length (B x) ≡ w) where
-  abbrev rowsBytes : List A → ℕ → List ℕ
-  rowsBytes xs n = joined n (λ j. B (get_or xs j d))
+  abbrev rows_bytes : List A → ℕ → List ℕ
+  rows_bytes xs n = joined n (λ j. B (get_or xs j d))
 
-  place : (xs : List A) (i j : ℕ) → i + length (rowsBytes xs j) ≡ i + w * j
+  place : (xs : List A) (i j : ℕ) → i + length (rows_bytes xs j) ≡ i + w * j
   place xs i j = ap (λ (k : ℕ). i + k) (length-joined w j (λ x. B (get_or xs x d)) (λ x. wide (get_or xs x d)))
 
   -- where the rows stand they are read
   pub rows-read : (i n : ℕ) (xs : List A) → n ≤ N → length xs ≡ N
       → ((j : ℕ) → j < n → (p : ℕ) → Stands s p (B (get_or xs j d)) → R p ≡ get_or xs j d)
-      → ((j : ℕ) → n ≤ j → j < N → get_or xs j d ≡ d) → Stands s i (rowsBytes xs n) → filled N d (λ j. R (i + w * j)) n ≡ xs
+      → ((j : ℕ) → n ≤ j → j < N → get_or xs j d ≡ d) → Stands s i (rows_bytes xs n) → filled N d (λ j. R (i + w * j)) n ≡ xs
   rows-read i n xs l e reads rest h =
-      slots-are N d d (λ j. R (i + w * j)) n xs l e
+      slots_are N d d (λ j. R (i + w * j)) n xs l e
       (λ j g.
       reads j g (i + w * j)
       (subst (λ (k : ℕ). Stands s k (B (get_or xs j d))) (place xs i j) (stands-each s i (λ x. B (get_or xs x d)) n h j g)))
       rest
 
   -- what was read has the bytes that stand there
-  pub rows-stand : ((i : ℕ) → i + w ≤ length s → Stands s i (B (R i))) → (i n : ℕ) → i + w * n ≤ length s
-      → Stands s i (rowsBytes (filled N d (λ j. R (i + w * j)) n) n)
-  rows-stand stands i n l =
+  pub rows_stand : ((i : ℕ) → i + w ≤ length s → Stands s i (B (R i))) → (i n : ℕ) → i + w * n ≤ length s
+      → Stands s i (rows_bytes (filled N d (λ j. R (i + w * j)) n) n)
+  rows_stand stands i n l =
       let xs = filled N d (λ j. R (i + w * j)) n in
       stands-joined s i (λ x. B (get_or xs x d)) (omega arith) n
       (λ j g.
-      let e : get_or xs j d ≡ R (i + w * j) = getD-filled N d (λ x. R (i + w * x)) n d j g in
+      let e : get_or xs j d ≡ R (i + w * j) = get_or-filled N d (λ x. R (i + w * x)) n d j g in
       let p : w * suc j ≤ w * n = mul-le-mul_left w g in
       let q : i + w * j + w ≤ length s = omega (arith, mul-suc w j) in
       subst (λ (k : ℕ). Stands s k (B (get_or xs j d))) (sym (place xs i j)) (rw e (stands (i + w * j) q)))

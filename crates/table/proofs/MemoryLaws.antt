@@ -7,20 +7,20 @@ use lib.ListN.{length, get_or}
 use Rattle.bytes.specs.Joined.{joined}
 use Rattle.bytes.proofs.JoinedLaws.{length-joined}
 use Rattle.rule.specs.declared.Rule.{Rule}
-use Rattle.rule.specs.Empty.{noRule}
-use Rattle.rule_write.specs.RuleWriteInner.{slotBytes}
+use Rattle.rule.specs.Empty.{no_rule}
+use Rattle.rule_write.specs.RuleWriteInner.{slot_bytes}
 use Rattle.rule_write.proofs.LengthsLaws.{length-rule}
 use Rattle.table.specs.Table.{Table}
-use Rattle.table.specs.Memory.{tableBytes}
+use Rattle.table.specs.Memory.{table_bytes}
 
 -- the first i rules' bytes, one after another
-abbrev pub rulesBytes : List Rule → ℕ → List ℕ
-rulesBytes rules i = joined i (λ j. slotBytes (get_or rules j noRule))
+abbrev pub rules_bytes : List Rule → ℕ → List ℕ
+rules_bytes rules i = joined i (λ j. slot_bytes (get_or rules j no_rule))
 
-pub length-rules : (rules : List Rule) (i : ℕ) → length (rulesBytes rules i) ≡ 284 * i
+pub length-rules : (rules : List Rule) (i : ℕ) → length (rules_bytes rules i) ≡ 284 * i
 length-rules rules i =
-    length-joined 284 i (λ j. slotBytes (get_or rules j noRule)) (λ j. length-rule (get_or rules j noRule) 8 8 16)
+    length-joined 284 i (λ j. slot_bytes (get_or rules j no_rule)) (λ j. length-rule (get_or rules j no_rule) 8 8 16)
 
-pub length-table : (t : Table) → length (tableBytes t) ≡ 9092
-unfolding tableBytes
+pub length-table : (t : Table) → length (table_bytes t) ≡ 9092
+unfolding table_bytes
 length-table t = omega (arith, length-rules t.rules 32)

@@ -7,14 +7,14 @@ use native.Mathlib.Omega.{arith}
 use lib.Dec.{ltb, leb, eqb}
 use borrow.Author.Tests.{ltb-true, ltb-false, le-ltb, le-leb, eqb-true, not-false}
 use Rattle.mask.specs.Search.{least}
-use Rattle.mask.proofs.SearchLaws.{or-false-both, least-is}
+use Rattle.mask.proofs.SearchLaws.{or_false_both, least-is}
 use Rattle.mask.proofs.FirstLaws.{NoneHolds, first-passed, passed_first}
 use Rattle.graph.specs.Graph.{cyclic}
-use Rattle.rule.specs.Numbers.{notZero, ruleSlotBad}
+use Rattle.rule.specs.Numbers.{not_zero, rule_slot_bad}
 use Rattle.rule.proofs.NumbersLaws.{Clean, clean}
-use Rattle.table.specs.Table.{Table, ruleAt, precedesOf}
+use Rattle.table.specs.Table.{Table, rule_at, precedes_of}
 use Rattle.table.specs.declared.Answer.{Answer}
-use Rattle.table.specs.Check.{done, sizesBad, number_at, firstBad, first_slot, checkAnswers, checkOf, Sound}
+use Rattle.table.specs.Check.{done, sizes_bad, number_at, first_bad, first_slot, check_answers, check_of, Sound}
 
 -- the sizes that 3 does not refuse
 pub record Sized (n k : ℕ) : Type 0 where
@@ -22,63 +22,63 @@ pub record Sized (n k : ℕ) : Type 0 where
   pub some-cell : 1 ≤ k
   pub cells : k ≤ 32
 
-pub sized : (n k : ℕ) → sizesBad n k ≡ false → Sized n k
-unfolding sizesBad
+pub sized : (n k : ℕ) → sizes_bad n k ≡ false → Sized n k
+unfolding sizes_bad
 sized n k e =
-    let p = or-false-both (ltb 32 n || ltb k 1) (ltb 32 k) e in
-    let q = or-false-both (ltb 32 n) (ltb k 1) p.0 in
+    let p = or_false_both (ltb 32 n || ltb k 1) (ltb 32 k) e in
+    let q = or_false_both (ltb 32 n) (ltb k 1) p.0 in
     record { rules = ltb-false 32 n q.0; some-cell = ltb-false k 1 q.1; cells = ltb-false 32 k p.1 }
 
-pub sizes-good : (n k : ℕ) → Sized n k → sizesBad n k ≡ false
-unfolding sizesBad
+pub sizes-good : (n k : ℕ) → Sized n k → sizes_bad n k ≡ false
+unfolding sizes_bad
 sizes-good n k s = rw (le-ltb 32 n s.rules, le-ltb k 1 s.some-cell, le-ltb 32 k s.cells)
 
 -- ---- the first number of a row that is not 0
 module _ (n : ℕ) (f : ℕ → ℕ) where
   abbrev first : ℕ
-  first = least n (λ i. notZero (f i))
+  first = least n (λ i. not_zero (f i))
 
   pub none_first : ltb first n ≡ false → (i : ℕ) → i < n → f i ≡ 0
   none_first e i l =
       eqb-true (f i) 0
-      (not-false (eqb (f i) 0) ((least-is n (λ x. notZero (f x))).first i (le_trans l (ltb-false first n e))))
+      (not-false (eqb (f i) 0) ((least-is n (λ x. not_zero (f x))).first i (le_trans l (ltb-false first n e))))
 
   pub first-is : ltb first n ≡ true → f first ≡ 0 → ⊥
-  first-is e z = false≢true (sym (ap notZero z) ∙ (least-is n (λ x. notZero (f x))).is (ltb-true first n e))
+  first-is e z = false≢true (sym (ap not_zero z) ∙ (least-is n (λ x. not_zero (f x))).is (ltb-true first n e))
 
 -- the parts of a sound table
 pub record Parts (t : Table) : Type 0 where
   pub sizes : Sized t.n t.k
-  pub rules : (i : ℕ) → i < t.n → Clean t.n t.k t.rules i (ruleAt t i)
-  pub slots : (i : ℕ) → t.n ≤ i → i < 32 → ruleSlotBad (ruleAt t i) ≡ false
-  pub acyclic : cyclic t.n (precedesOf t) ≡ false
+  pub rules : (i : ℕ) → i < t.n → Clean t.n t.k t.rules i (rule_at t i)
+  pub slots : (i : ℕ) → t.n ≤ i → i < 32 → rule_slot_bad (rule_at t i) ≡ false
+  pub acyclic : cyclic t.n (precedes_of t) ≡ false
 
 module _ (t : Table) where
-  none-bad : ltb (firstBad t) t.n ≡ false → (i : ℕ) → i < t.n → Clean t.n t.k t.rules i (ruleAt t i)
-  unfolding firstBad number_at
-  none-bad e i l = clean t.n t.k t.rules i (ruleAt t i) (none_first t.n (number_at t) e i l)
+  none-bad : ltb (first_bad t) t.n ≡ false → (i : ℕ) → i < t.n → Clean t.n t.k t.rules i (rule_at t i)
+  unfolding first_bad number_at
+  none-bad e i l = clean t.n t.k t.rules i (rule_at t i) (none_first t.n (number_at t) e i l)
 
-  none-slot : ltb (first_slot t) 32 ≡ false → (i : ℕ) → t.n ≤ i → i < 32 → ruleSlotBad (ruleAt t i) ≡ false
+  none-slot : ltb (first_slot t) 32 ≡ false → (i : ℕ) → t.n ≤ i → i < 32 → rule_slot_bad (rule_at t i) ≡ false
   unfolding first_slot
   none-slot e i h l =
-      sym (ap (λ (b : Bool). b && ruleSlotBad (ruleAt t i)) (le-leb t.n i h))
-      ∙ (least-is 32 (λ x. leb t.n x && ruleSlotBad (ruleAt t x))).first i (le_trans l (ltb-false (first_slot t) 32 e))
+      sym (ap (λ (b : Bool). b && rule_slot_bad (rule_at t i)) (le-leb t.n i h))
+      ∙ (least-is 32 (λ x. leb t.n x && rule_slot_bad (rule_at t x))).first i (le_trans l (ltb-false (first_slot t) 32 e))
 
   -- the first rule with a number has one
-  pub bad-here : ltb (firstBad t) t.n ≡ true → number_at t (firstBad t) ≡ 0 → ⊥
-  unfolding firstBad
+  pub bad-here : ltb (first_bad t) t.n ≡ true → number_at t (first_bad t) ≡ 0 → ⊥
+  unfolding first_bad
   bad-here = first-is t.n (number_at t)
 
   -- where the check gives 0, none of its tests holds
-  none-applies : (checkOf t).number ≡ 0 → NoneHolds (checkAnswers t)
-  unfolding checkOf
-  none-applies =
-      first-passed (λ (a : Answer). a.number ≡ 0) done (checkAnswers t)
+  none_applies : (check_of t).number ≡ 0 → NoneHolds (check_answers t)
+  unfolding check_of
+  none_applies =
+      first-passed (λ (a : Answer). a.number ≡ 0) done (check_answers t)
       (λ b z. omega arith, (bad-here, (λ b z. omega arith, (λ b z. omega arith, tt))))
 
   pub parts : Sound t → Parts t
   parts s =
-      let p = none-applies (ap (λ (a : Answer). a.number) s.checked) in
+      let p = none_applies (ap (λ (a : Answer). a.number) s.checked) in
       record {
         sizes = sized t.n t.k p.0;
         rules = none-bad p.1.0;
@@ -87,6 +87,6 @@ module _ (t : Table) where
       }
 
   -- a table whose check gives 0 is sound
-  pub sound-by : (checkOf t).number ≡ 0 → Sound t
-  unfolding checkOf
-  sound-by e = record { checked = passed_first done (checkAnswers t) (none-applies e) }
+  pub sound-by : (check_of t).number ≡ 0 → Sound t
+  unfolding check_of
+  sound-by e = record { checked = passed_first done (check_answers t) (none_applies e) }

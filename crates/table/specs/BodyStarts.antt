@@ -3,8 +3,8 @@ use Rattle.std.specs.Prelude.{ℕ, zero, suc, ◌+◌, ◌*◌}
 use Rattle.rule.specs.declared.Rule.{Rule}
 
 -- "Its length is 12 + 12t + 20a + m."
-abbrev pub bodySize : Rule → ℕ
-bodySize r = 12 + 12 * r.t + 20 * r.a + r.m
+abbrev pub body_size : Rule → ℕ
+body_size r = 12 + 12 * r.t + 20 * r.a + r.m
 
 -- "The first start is 4 + 4n. Each next start is the previous start plus the previous length.": of n bodies with these
 -- lengths, the start of body i

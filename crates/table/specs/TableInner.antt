@@ -3,12 +3,12 @@ use Rattle.std.specs.Prelude.{◌≡◌, Bool, cond, List, ℕ, ◌+◌, ◌*◌
 use Rattle.mask.specs.Search.{some}
 use Rattle.rule.specs.declared.Rule.{Rule}
 use Rattle.rule.specs.Fill.{filled}
-use Rattle.rule.specs.Numbers.{notZero}
-use Rattle.rule_read.specs.Parts.{ruleOf}
+use Rattle.rule.specs.Numbers.{not_zero}
+use Rattle.rule_read.specs.Parts.{rule_of}
 use Rattle.bytes.specs.Little.{byte_at}
-use Rattle.table.specs.Table.{Table, ruleAt}
+use Rattle.table.specs.Table.{Table, rule_at}
 use Rattle.table.specs.declared.Answer.{Answer}
-use Rattle.table.specs.Check.{answer, done, number_at, firstBad}
+use Rattle.table.specs.Check.{answer, done, number_at, first_bad}
 
 -- n and k are those of the image, and 3 does not refuse them
 pub record Sizes (s : List ℕ) (n k : ℕ) : Type 0 where
@@ -20,19 +20,19 @@ pub record Sizes (s : List ℕ) (n k : ℕ) : Type 0 where
 
 -- the first rule with a number
 unfoldable pub judged : Table → Answer
-judged t = cond (ltb (firstBad t) t.n) (answer (number_at t (firstBad t)) (firstBad t)) done
+judged t = cond (ltb (first_bad t) t.n) (answer (number_at t (first_bad t)) (first_bad t)) done
 
 -- some byte is not 0
-unfoldable pub anySet : List ℕ → Bool
-anySet s = some (length s) (λ j. notZero (get_or s j 0))
+unfoldable pub any_set : List ℕ → Bool
+any_set s = some (length s) (λ j. not_zero (get_or s j 0))
 
 -- the row of the rules' watch masks
-abbrev pub watchesOf : Table → List ℕ
-watchesOf t = filled 32 0 (λ i. (ruleAt t i).watch) t.n
+abbrev pub watches_of : Table → List ℕ
+watches_of t = filled 32 0 (λ i. (rule_at t i).watch) t.n
 
 -- where rule i stands, and the rule that stands there
-abbrev pub slotStart : ℕ → ℕ
-slotStart i = 4 + 284 * i
+abbrev pub slot_start : ℕ → ℕ
+slot_start i = 4 + 284 * i
 
-abbrev pub ruleFrom : List ℕ → ℕ → Rule
-ruleFrom s i = ruleOf s (slotStart i) 8 8 16
+abbrev pub rule_from : List ℕ → ℕ → Rule
+rule_from s i = rule_of s (slot_start i) 8 8 16

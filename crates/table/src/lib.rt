@@ -2,10 +2,10 @@
 ghost use Rattle.std.specs.Prelude.{◌≡◌, ◌≤◌, length, replicate};
 ghost use Rattle.graph.specs.Graph.{cyclic};
 ghost use Rattle.bytes.specs.Little.{byte_at};
-ghost use Rattle.table.specs.Table.{precedesOf};
-ghost use Rattle.table.specs.Check.{sizesBad, first_slot, checkOf};
-ghost use Rattle.table.specs.Memory.{tableFrom};
-ghost use Rattle.table.specs.TableInner.{Sizes, judged, anySet};
+ghost use Rattle.table.specs.Table.{precedes_of};
+ghost use Rattle.table.specs.Check.{sizes_bad, first_slot, check_of};
+ghost use Rattle.table.specs.Memory.{table_from};
+ghost use Rattle.table.specs.TableInner.{Sizes, judged, any_set};
 
 // A number of the paper with its place.
 #[derive(Drop)]
@@ -16,7 +16,7 @@ pub struct Answer {
 
 // 3: the number of rules, the number of cells.
 pub fn sizes_bad(n: u8, k: u8) -> bool
-    ensures { result ≡ sizesBad n k }
+    ensures { result ≡ sizes_bad n k }
 {
     (32 < n) | (k < 1) | (32 < k)
 }
@@ -24,7 +24,7 @@ pub fn sizes_bad(n: u8, k: u8) -> bool
 // The first rule with a number, and that number, or 0; where there is none, the row of the rules' precedes masks is filled in.
 fn judge(s: &[u8], n: u8, k: u8, row: &mut [u32; 32]) -> Answer
     requires { Sizes s.now n k × (row.old ≡ replicate 32 0) }
-    ensures { (result ≡ judged (tableFrom s.now)) × (result.number ≡ 0 → row.new ≡ precedesOf (tableFrom s.now)) }
+    ensures { (result ≡ judged (table_from s.now)) × (result.number ≡ 0 → row.new ≡ precedes_of (table_from s.now)) }
 {
     let mut names = [0u64; 64];
     for i in 0..rule::count(n) {
@@ -59,7 +59,7 @@ fn judge(s: &[u8], n: u8, k: u8, row: &mut [u32; 32]) -> Answer
 
 // Whether some byte is not 0.
 fn any_set(s: &[u8]) -> bool
-    ensures { result ≡ anySet s.now }
+    ensures { result ≡ any_set s.now }
 {
     let mut any = false;
     for j in 0..s.len() {
@@ -71,7 +71,7 @@ fn any_set(s: &[u8]) -> bool
 // The first slot past n that is not all zero, or 32.
 fn first_slot(s: &[u8], n: usize) -> usize
     requires { (length s.now ≡ 9092) × (n ≡ byte_at s.now 1) × (n ≤ 32) }
-    ensures { result ≡ first_slot (tableFrom s.now) }
+    ensures { result ≡ first_slot (table_from s.now) }
 {
     let from = 4 + 284 * n;
     if !any_set(&s[from..]) {
@@ -98,7 +98,7 @@ pub fn row_cyclic(row: [u32; 32], n: usize) -> bool
 
 // The checks that every call on a table makes first: 3, the rules by 5 to 9, the rule slots past n by 7, then 10.
 pub fn check(s: &[u8; 9092]) -> Answer
-    ensures { result ≡ checkOf (tableFrom s.now) }
+    ensures { result ≡ check_of (table_from s.now) }
 {
     let n = s[1];
     let k = s[2];

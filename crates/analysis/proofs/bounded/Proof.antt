@@ -2,13 +2,13 @@
 use mathlib.Core.Path.{◌≡◌, sym, subst}
 use native.Mathlib.Omega.{arith}
 use Rattle.bytes.specs.EachByte.{Bytes}
-use Rattle.table.specs.Memory.{tableFrom}
+use Rattle.table.specs.Memory.{table_from}
 use Rattle.analysis_pairs.specs.declared.Masks.{Masks}
 use Rattle.analysis_pairs.specs.AnalysisPairsInner.{triggering}
 use Rattle.analysis_masks.specs.AnalysisMasksInner.{Orderly}
 use Rattle.analysis_masks.specs.Bound.{Bounded}
-use Rattle.analysis_masks.proofs.BoundLaws.{triggering-orderly, bounded-in}
-use Rattle.analysis.specs.TableMasks.{masksOf}
+use Rattle.analysis_masks.proofs.BoundLaws.{triggering-orderly, bounded_in}
+use Rattle.analysis.specs.TableMasks.{masks_of}
 use Rattle.analysis.specs.AnalysisInner.{SoundBytes}
 use Rattle.analysis.proofs.TableMasksLaws.{few-from, orderly_from, triggering-from}
 use borrow.Author.Rules.{rules}
@@ -25,7 +25,7 @@ watches-requires c κs = let h = lies c in (h.size, h.count, few-from _ h)
 
 -- the rules that are lent
 abbrev table : tie.After-writes → Masks
-table c = masksOf (tableFrom c.before.before.before.before.before.args.s.now)
+table c = masks_of (table_from c.before.before.before.before.before.args.s.now)
 
 abbrev lent : tie.After-writes → Masks
 lent c = triggering c.before.before.count.result c.before.watches.result c.writes.result
@@ -45,7 +45,7 @@ returns : tie.Need-returns
 returns c =
     let w = c.before.before.before in
     let set = w.before.before.before.before.before.args.set in
-    bounded-in (table w) set c.bound.result
+    bounded_in (table w) set c.bound.result
     (subst (λ (m : Masks). Bounded m set c.bound.result) (lent-are w) c.bound.ensures)
 
 pub bounded_spec : {M : Type 1} → statement M

@@ -2,12 +2,12 @@
 use mathlib.Core.Path.{◌≡◌, sym, subst}
 use native.Mathlib.Omega.{arith}
 use Rattle.bytes.specs.EachByte.{Bytes}
-use Rattle.table.specs.Memory.{tableFrom}
+use Rattle.table.specs.Memory.{table_from}
 use Rattle.analysis_pairs.specs.declared.Masks.{Masks}
-use Rattle.analysis_pairs.specs.AnalysisPairsInner.{masksIn}
-use Rattle.analysis_masks.specs.AnalysisMasksInner.{Orderly, reportIn}
+use Rattle.analysis_pairs.specs.AnalysisPairsInner.{masks_in}
+use Rattle.analysis_masks.specs.AnalysisMasksInner.{Orderly, report_in}
 use Rattle.analysis_masks.specs.Report.{Reported}
-use Rattle.analysis.specs.TableMasks.{masksOf}
+use Rattle.analysis.specs.TableMasks.{masks_of}
 use Rattle.analysis.specs.AnalysisInner.{SoundBytes}
 use Rattle.analysis.proofs.TableMasksLaws.{few-from, orderly_from, rows-from}
 use borrow.Author.Rules.{rules}
@@ -31,9 +31,9 @@ lent c =
     let w = c.before in
     let r = w.before in
     let t = r.before in
-    masksIn t.before.count.result t.watches.result r.reads.result w.writes.result c.precedes.result
+    masks_in t.before.count.result t.watches.result r.reads.result w.writes.result c.precedes.result
 
-lent-are : (c : tie.After-precedes) → lent c ≡ masksOf (tableFrom c.before.before.before.before.before.before.before.args.s.now)
+lent-are : (c : tie.After-precedes) → lent c ≡ masks_of (table_from c.before.before.before.before.before.before.before.args.s.now)
 lent-are c =
     let w = c.before in
     let r = w.before in
@@ -51,7 +51,7 @@ judged-requires c κs =
 returns : tie.Need-returns
 returns c =
     let p = c.before.before.before.before.before.before in
-    subst (λ (m : Masks). Reported m (reportIn c.judged.result c.judged.new.1.1.1.1.1.0)) (lent-are p) c.judged.ensures
+    subst (λ (m : Masks). Reported m (report_in c.judged.result c.judged.new.1.1.1.1.1.0)) (lent-are p) c.judged.ensures
 
 pub judged-spec : {M : Type 1} → statement M
 judged-spec =

@@ -4,7 +4,7 @@ use Prim.Native.Nat.{◌-◌}
 use native.Mathlib.Nat.{le_refl}
 use native.Mathlib.Omega.{arith}
 use Rattle.rule.specs.Uses.{reads}
-use Rattle.analysis.proofs.TableMasksLaws.{few-from, counted-from, RowSoFar, sofar-more, sofar-all}
+use Rattle.analysis.proofs.TableMasksLaws.{few-from, counted-from, RowSoFar, sofar_more, sofar_all}
 use borrow.Author.Rules.{rules}
 use Rattle.analysis.proofs.reads.Statement.{statement}
 use Rattle.analysis.proofs.reads.Tie as tie
@@ -27,10 +27,10 @@ reads-requires c κs =
 loop-again : tie.Need-loop-preserved invariant-loop decreases-loop
 loop-again c =
     let l = c.before.before in
-    sofar-more _ l.before.before.requires reads l.loop.invariant c.before.loop-test.true (search rules) (λ x. c.reads.ensures x 16)
+    sofar_more _ l.before.before.requires reads l.loop.invariant c.before.loop-test.true (search rules) (λ x. c.reads.ensures x 16)
 
 returns : tie.Need-returns invariant-loop decreases-loop
-returns c = sofar-all _ c.before.before.before.requires reads c.before.loop.invariant c.loop-test.false
+returns c = sofar_all _ c.before.before.before.requires reads c.before.loop.invariant c.loop-test.false
 
 pub reads-spec : {M : Type 1} → statement M
 reads-spec =

@@ -6,8 +6,8 @@ use native.Mathlib.Omega.{arith}
 use Rattle.mask.proofs.LoopsLaws.{upto-none}
 use Rattle.analysis_pairs.specs.AnalysisPairsInner.{Mutual}
 use Rattle.analysis_marks.specs.Index.{start}
-use Rattle.analysis_marks.proofs.IndexLaws.{start-next, start-mono, start-all}
-use Rattle.analysis_marks.specs.AnalysisMarksInner.{graphsIn, Filled, MarkAt, noMarks}
+use Rattle.analysis_marks.proofs.IndexLaws.{start-next, start_mono, start-all}
+use Rattle.analysis_marks.specs.AnalysisMarksInner.{graphs_in, Filled, MarkAt, no_marks}
 use Rattle.analysis_marks.proofs.MarkingLaws.{zeros-size, all-marks}
 use borrow.Author.Rules.{rules}
 use Rattle.analysis_marks.proofs.filled.Statement.{statement}
@@ -15,7 +15,7 @@ use Rattle.analysis_marks.proofs.filled.Tie as tie
 
 abbrev invariant-loop : tie.invariant-loop
 invariant-loop trig ahead clash n q₀ at₀ i₀ q at i =
-    (i ≤ n) × (n ≤ 32) × (at ≡ start i) × Mutual clash × Filled (graphsIn n trig ahead clash) i q
+    (i ≤ n) × (n ≤ 32) × (at ≡ start i) × Mutual clash × Filled (graphs_in n trig ahead clash) i q
 
 abbrev decreases-loop : tie.decreases-loop
 decreases-loop trig ahead clash n q₀ at₀ i₀ q at i = n - i
@@ -24,8 +24,8 @@ loop-holds : tie.Need-loop-init invariant-loop decreases-loop
 unfolding start
 loop-holds c =
     let s = c.args in
-    let g = graphsIn s.n s.trig.now s.ahead.now s.clash.now in
-    (search rules, c.requires.0, refl, c.requires.1, subst (Filled g 0) (sym c.requires.2) (upto-none (MarkAt g) noMarks))
+    let g = graphs_in s.n s.trig.now s.ahead.now s.clash.now in
+    (search rules, c.requires.0, refl, c.requires.1, subst (Filled g 0) (sym c.requires.2) (upto-none (MarkAt g) no_marks))
 
 row-requires : tie.Need-row-requires invariant-loop decreases-loop
 row-requires c κs =
@@ -35,7 +35,7 @@ row-requires c κs =
 add_at : tie.Need-overflow-add-at invariant-loop decreases-loop
 add_at c =
     let at = c.before.before.before.loop in
-    omega (arith, at.invariant, start-mono at.i 31 (omega arith), start-all)
+    omega (arith, at.invariant, start_mono at.i 31 (omega arith), start-all)
 
 loop-again : tie.Need-loop-preserved invariant-loop decreases-loop
 loop-again c =
@@ -50,7 +50,7 @@ loop-again c =
 returns : tie.Need-returns invariant-loop decreases-loop
 returns c =
     let s = c.before.before.args in
-    let g = graphsIn s.n s.trig.now s.ahead.now s.clash.now in
+    let g = graphs_in s.n s.trig.now s.ahead.now s.clash.now in
     let at = c.before.loop in
     let e : at.i ≡ s.n = omega arith in
     (at.invariant.4.len ∙ zeros-size, all-marks g at.q (subst (λ (k : ℕ). Filled g k at.q) e at.invariant.4))

@@ -1,7 +1,7 @@
 -- The first mark 2 belongs to a pair that fails, so judging it again gives its culprits.
 use native.Mathlib.Omega.{arith}
 use Rattle.mask.proofs.SearchLaws.{least-is}
-use Rattle.analysis_marks.specs.Marks.{failsAt}
+use Rattle.analysis_marks.specs.Marks.{fails_at}
 use Rattle.analysis_marks.proofs.MarkedLaws.{first-none, first_some}
 use borrow.Author.Rules.{rules}
 use Rattle.analysis_marks.proofs.first_failing.Statement.{statement}
@@ -16,7 +16,7 @@ pair-at-requires c κs =
       arith,
       c.before.first-mark.ensures,
       c.if1.false,
-      (least-is 496 (failsAt c.before.before.args.q.now)).bound,
+      (least-is 496 (fails_at c.before.before.args.q.now)).bound,
     )
 
 returns-2 : tie.Need-returns-2

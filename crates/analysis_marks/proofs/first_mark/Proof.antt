@@ -7,13 +7,13 @@ use native.Mathlib.Omega.{arith}
 use borrow.Author.Count.{below_none, below_more}
 use borrow.Author.Tests.{eq-eqb, ne_eqb}
 use Rattle.mask.proofs.SearchLaws.{least_by}
-use Rattle.analysis_marks.specs.Marks.{failsAt}
+use Rattle.analysis_marks.specs.Marks.{fails_at}
 use borrow.Author.Rules.{rules}
 use Rattle.analysis_marks.proofs.first_mark.Statement.{statement}
 use Rattle.analysis_marks.proofs.first_mark.Tie as tie
 
 abbrev invariant-loop : tie.invariant-loop
-invariant-loop q at₀ at = (at ≤ 496) × ((y : ℕ) → y < at → failsAt q y ≡ false)
+invariant-loop q at₀ at = (at ≤ 496) × ((y : ℕ) → y < at → fails_at q y ≡ false)
 
 abbrev decreases-loop : tie.decreases-loop
 decreases-loop q at₀ at = 496 - at
@@ -24,7 +24,7 @@ loop-holds c = (search rules, below_none _)
 returns : tie.Need-returns invariant-loop decreases-loop
 returns c =
     let at = c.before.before.before in
-    least_by 496 (failsAt at.before.args.q.now) _
+    least_by 496 (fails_at at.before.args.q.now) _
     (record { bound = at.loop.invariant.0; is = λ l. eq-eqb _ _ c.if1.true; first = at.loop.invariant.1 })
 
 loop-again : tie.Need-loop-preserved invariant-loop decreases-loop
@@ -32,7 +32,7 @@ loop-again c = (omega arith, below_more _ _ c.before.before.before.loop.invarian
 
 returns-2 : tie.Need-returns-2 invariant-loop decreases-loop
 returns-2 c =
-    least_by 496 (failsAt c.before.before.args.q.now) _
+    least_by 496 (fails_at c.before.before.args.q.now) _
     (record {
       bound = search rules;
       is = λ l. absurd (lt_irrefl 496 l);

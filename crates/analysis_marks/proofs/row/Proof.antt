@@ -7,7 +7,7 @@ use Rattle.mask.specs.MaskInner.{Upto}
 use Rattle.analysis_pairs.specs.AnalysisPairsInner.{Mutual}
 use Rattle.analysis_marks.specs.Index.{start}
 use Rattle.analysis_marks.proofs.IndexLaws.{index-lt}
-use Rattle.analysis_marks.specs.AnalysisMarksInner.{graphsIn, MarkAt, noMarks}
+use Rattle.analysis_marks.specs.AnalysisMarksInner.{graphs_in, MarkAt, no_marks}
 use Rattle.analysis_marks.proofs.MarkingLaws.{mark-stored, mark-kept, row-end}
 use borrow.Author.Rules.{rules}
 use Rattle.analysis_marks.proofs.row.Statement.{statement}
@@ -16,7 +16,7 @@ use Rattle.analysis_marks.proofs.row.Tie as tie
 abbrev invariant-loop : tie.invariant-loop
 invariant-loop trig ahead clash n i at q₀ j₀ q j =
     (i < j) × (j ≤ n) × (n ≤ 32) × (at ≡ start i) × Mutual clash
-    × Upto (MarkAt (graphsIn n trig ahead clash)) noMarks (at + (j - (i + 1))) q
+    × Upto (MarkAt (graphs_in n trig ahead clash)) no_marks (at + (j - (i + 1))) q
 
 abbrev decreases-loop : tie.decreases-loop
 decreases-loop trig ahead clash n i at q₀ j₀ q j = n - j
@@ -62,7 +62,7 @@ loop-again c =
     let at = c.before.before.before.loop in
     let s = c.before.before.before.before.args in
     let order = c.before.unordered.ensures in
-    let g = graphsIn s.n s.trig.now s.ahead.now s.clash.now in
+    let g = graphs_in s.n s.trig.now s.ahead.now s.clash.now in
     let l : at.j < s.n = omega arith in
     let stored = mark-stored g s.i at.j s.at at.q at.invariant.2 at.invariant.0 l at.invariant.3 at.invariant.5 in
     let kept = mark-kept g s.i at.j s.at at.q at.invariant.2 at.invariant.0 l at.invariant.3 at.invariant.5 in (
@@ -80,7 +80,7 @@ loop-again c =
 returns : tie.Need-returns invariant-loop decreases-loop
 returns c =
     let s = c.before.before.args in
-    let g = graphsIn s.n s.trig.now s.ahead.now s.clash.now in
+    let g = graphs_in s.n s.trig.now s.ahead.now s.clash.now in
     row-end g s.i _ c.before.loop.q (omega arith) (omega arith) (omega arith) c.before.loop.invariant.5
 
 pub row-spec : {M : Type 1} → statement M

@@ -6,8 +6,8 @@ use native.Mathlib.Omega.{arith}
 use lib.ListN.{replicate, length-replicate}
 use Rattle.mask.specs.MaskInner.{Upto}
 use Rattle.mask.proofs.LoopsLaws.{upto-none, upto-store}
-use Rattle.analysis_pairs.specs.AnalysisPairsInner.{clashes, masksIn, clashing}
-use Rattle.analysis_pairs.proofs.ClashingLaws.{clash-law}
+use Rattle.analysis_pairs.specs.AnalysisPairsInner.{clashes, masks_in, clashing}
+use Rattle.analysis_pairs.proofs.ClashingLaws.{clash_law}
 use Rattle.analysis_pairs.proofs.RowsLaws.{Row, rows-by}
 use borrow.Author.Rules.{rules}
 use Rattle.analysis_pairs.proofs.clashes.Statement.{statement}
@@ -36,7 +36,7 @@ returns c =
     let t = c.before.before in
     let s = t.before in
     let a = s.args in
-    let law = clash-law (masksIn 0 a.watch.now a.reads.now a.writes.now []) _ t.touched.ensures in
+    let law = clash_law (masks_in 0 a.watch.now a.reads.now a.writes.now []) _ t.touched.ensures in
     rows-by _ a.n s.requires.1 (Row (clashing t.touched.result a.writes.now))
     (λ r v l d. (d.0, λ x k. d.1 x k ∙ law r x l k)) _ _ c.loop-test.false c.before.loop.invariant.2
 

@@ -6,7 +6,7 @@ use Prim.Native.Nat.{ℕ, ◌≤◌}
 use native.Mathlib.Omega.{arith}
 use Rattle.mask.specs.Mask.{has}
 use Rattle.mask.proofs.MaskLaws.{lowest-is}
-use Rattle.analysis_pairs.proofs.TurnedLaws.{mutual-met}
+use Rattle.analysis_pairs.proofs.TurnedLaws.{mutual_met}
 use Rattle.analysis_pairs.proofs.VerdictLaws.{guilty, judged-passing, judged-failing}
 use borrow.Author.Rules.{rules}
 use Rattle.analysis_pairs.proofs.judge.Statement.{statement}
@@ -31,7 +31,7 @@ struck c r =
     let g = c.before.before in
     c.common.ensures r
     ∙ ap (λ (x : Bool). has g.grown.result.first r && x)
-    (c.before.gather.ensures r ∙ mutual-met g.before.requires.2 g.grown.result.second r)
+    (c.before.gather.ensures r ∙ mutual_met g.before.requires.2 g.grown.result.second r)
 
 returns : tie.Need-returns
 returns c =

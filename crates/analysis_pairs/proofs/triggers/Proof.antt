@@ -6,7 +6,7 @@ use lib.ListN.{get_or, replicate, length-replicate}
 use Rattle.mask.specs.Mask.{meet}
 use Rattle.mask.specs.MaskInner.{Upto}
 use Rattle.mask.proofs.LoopsLaws.{upto-none, upto-store}
-use Rattle.analysis_pairs.specs.RuleMasks.{triggers, mayTrigger}
+use Rattle.analysis_pairs.specs.RuleMasks.{triggers, may_trigger}
 use Rattle.analysis_pairs.proofs.RowsLaws.{Row, rows-by}
 use borrow.Author.Rules.{rules}
 use Rattle.analysis_pairs.proofs.triggers.Statement.{statement}
@@ -33,7 +33,7 @@ loop-again c =
     )
 
 returns : tie.Need-returns invariant-loop decreases-loop
-unfolding triggers mayTrigger
+unfolding triggers may_trigger
 returns c =
     let s = c.before.before in
     rows-by _ s.args.n s.requires.1 (May s.args.watch.now s.args.writes.now) (λ r v l h. h) _ _

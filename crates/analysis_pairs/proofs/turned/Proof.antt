@@ -9,7 +9,7 @@ use lib.ListN.{replicate, length-replicate}
 use Rattle.mask.proofs.BitsLaws.{has-zero}
 use Rattle.mask.specs.MaskInner.{Upto}
 use Rattle.mask.proofs.LoopsLaws.{upto-none, upto-store}
-use Rattle.analysis_pairs.specs.AnalysisPairsInner.{edge, turnedOf}
+use Rattle.analysis_pairs.specs.AnalysisPairsInner.{edge, turned_of}
 use Rattle.analysis_pairs.proofs.RowsLaws.{turned-within, Row, rows-by}
 use Rattle.analysis_pairs.proofs.TurnedLaws.{meet_one}
 use borrow.Author.Rules.{rules}
@@ -41,7 +41,7 @@ loop-again c =
     )
 
 returns : tie.Need-returns invariant-loop decreases-loop
-unfolding turnedOf
+unfolding turned_of
 returns c =
     let s = c.before.before in
     rows-by _ s.args.n (turned-within s.requires.1) (Named s.args.rows.now) (λ r v l h. h) _ _ c.loop-test.false

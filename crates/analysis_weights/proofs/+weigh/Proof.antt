@@ -11,9 +11,9 @@ use borrow.Fn.PlainCycle.{Measures, is, falls, and}
 use Rattle.mask.specs.Search.{count}
 use Rattle.mask.proofs.SearchLaws.{count-drop}
 use Rattle.mask.specs.Mask.{has}
-use Rattle.analysis_weights.specs.AnalysisWeightsInner.{sumBelow, weightIn}
+use Rattle.analysis_weights.specs.AnalysisWeightsInner.{sum_below, weight_in}
 use Rattle.analysis_weights.proofs.SumsLaws.{total-le}
-use Rattle.analysis_weights.proofs.WeighingLaws.{room_fits, room-one, weighed-none, weighable-next, weighed-more}
+use Rattle.analysis_weights.proofs.WeighingLaws.{room_fits, room-one, weighed_none, weighable_next, weighed_more}
 use Rattle.mask.proofs.without.Reads as without-reads
 use Rattle.analysis_weights.proofs.ready.Reads as ready-reads
 use Rattle.analysis_weights.proofs.total.Reads as total-reads
@@ -60,13 +60,13 @@ module _ (t : ℕ) where
 
   -- the sum of what the rule may trigger is at most that of all
   most : (c : weigh-lts.After-total (calls t) (weigh-at t) weigh.Post)
-      → c.total.result ≤ sumBelow 32 (weightIn c.before.before.before.before.before.args.w.now)
+      → c.total.result ≤ sum_below 32 (weight_in c.before.before.before.before.before.args.w.now)
   most c =
       let s = c.before.before.before.before.before in
       omega (
         arith,
         c.total.ensures,
-        total-le 32 (get_or s.args.trig.now c.before.before.before.before.ready.result 0) (weightIn s.args.w.now),
+        total-le 32 (get_or s.args.trig.now c.before.before.before.before.ready.result 0) (weight_in s.args.w.now),
       )
 
   add-w : weigh-lts.Need-overflow-add-w (calls t) (weigh-at t) weigh.Post
@@ -104,7 +104,7 @@ module _ (t : ℕ) where
       let f = o.before.before.before.before in
       let s = f.before.before in (
         subst (λ (j : ℕ). count 32 (has o.without.result) < j) s.requires.0 (le_of_eq (sym (fewer o))),
-        weighable-next s.args.trig.now s.args.left o.without.result s.args.w.now _ f.if1.true
+        weighable_next s.args.trig.now s.args.left o.without.result s.args.w.now _ f.if1.true
             f.before.ready.ensures s.requires.1 o.without.ensures _ (omega (arith, most o.before)) (fewer o),
       )
 
@@ -113,14 +113,14 @@ module _ (t : ℕ) where
       let o = c.before.before in
       let f = o.before.before.before.before in
       let s = f.before.before in
-      weighed-more s.args.trig.now s.args.left o.without.result s.args.w.now _ f.if1.true
+      weighed_more s.args.trig.now s.args.left o.without.result s.args.w.now _ f.if1.true
       f.before.ready.ensures s.requires.1 o.without.ensures
       _ o.before.total.result o.before.total.ensures c.weigh.ensures
 
   returns-2 : weigh-lts.Need-returns-2 (calls t) (weigh-at t) weigh.Post
   returns-2 c =
       let s = c.before.before in
-      weighed-none s.args.trig.now s.args.left s.args.w.now _ s.ranges.left.fits c.if1.false
+      weighed_none s.args.trig.now s.args.left s.args.w.now _ s.ranges.left.fits c.if1.false
       c.before.ready.ensures s.requires.1
 
 pub +weigh-spec : {M : Type 1} → statement M

@@ -8,21 +8,21 @@ use native.Mathlib.Nat.{add-zero, le_antisymm}
 use native.Mathlib.Omega.{arith}
 use Rattle.mask.specs.Mask.{has}
 use Rattle.analysis_weights.specs.Weight.{total}
-use Rattle.analysis_weights.specs.AnalysisWeightsInner.{sumBelow, weightIn}
-use Rattle.analysis_weights.proofs.SumsLaws.{total-le, total-more, sumBelow-at}
+use Rattle.analysis_weights.specs.AnalysisWeightsInner.{sum_below, weight_in}
+use Rattle.analysis_weights.proofs.SumsLaws.{total-le, total-more, sum_below-at}
 use borrow.Author.Rules.{rules}
 use Rattle.analysis_weights.proofs.total.Statement.{statement}
 use Rattle.analysis_weights.proofs.total.Tie as tie
 
 -- one number further: t has got what the test says
-turn : (m : ℕ) (w : List ℕ) (x t : ℕ) (b : Bool) → has m x ≡ b → t ≡ total x m (weightIn w)
-    → t + cond b (weightIn w x) 0 ≡ total (x + 1) m (weightIn w)
+turn : (m : ℕ) (w : List ℕ) (x t : ℕ) (b : Bool) → has m x ≡ b → t ≡ total x m (weight_in w)
+    → t + cond b (weight_in w x) 0 ≡ total (x + 1) m (weight_in w)
 turn m w x t b h q =
-    ap (λ (k : ℕ). k + cond b (weightIn w x) 0) q
-    ∙ sym (total-more x m (weightIn w) ∙ ap (λ (c : Bool). total x m (weightIn w) + cond c (weightIn w x) 0) h)
+    ap (λ (k : ℕ). k + cond b (weight_in w x) 0) q
+    ∙ sym (total-more x m (weight_in w) ∙ ap (λ (c : Bool). total x m (weight_in w) + cond c (weight_in w x) 0) h)
 
 abbrev invariant-loop : tie.invariant-loop
-invariant-loop w m t₀ x₀ t x = (x ≤ 32) × (t ≡ total x m (weightIn w)) × (sumBelow 32 (weightIn w) < 2 ^ 32)
+invariant-loop w m t₀ x₀ t x = (x ≤ 32) × (t ≡ total x m (weight_in w)) × (sum_below 32 (weight_in w) < 2 ^ 32)
 
 abbrev decreases-loop : tie.decreases-loop
 decreases-loop w m t₀ x₀ t x = 32 - x
@@ -38,8 +38,8 @@ add-t c =
     omega (
       arith,
       at-loop.invariant,
-      total-le at-loop.x s.m (weightIn s.w.now),
-      sumBelow-at 32 (weightIn s.w.now) at-loop.x c.before.before.before.loop-test.true,
+      total-le at-loop.x s.m (weight_in s.w.now),
+      sum_below-at 32 (weight_in s.w.now) at-loop.x c.before.before.before.loop-test.true,
     )
 
 loop-again : tie.Need-loop-preserved invariant-loop decreases-loop
@@ -60,7 +60,7 @@ returns : tie.Need-returns invariant-loop decreases-loop
 returns c =
     let s = c.before.before.args in
     c.before.loop.invariant.1
-    ∙ ap (λ (k : ℕ). total k s.m (weightIn s.w.now)) (le_antisymm c.before.loop.invariant.0 c.loop-test.false)
+    ∙ ap (λ (k : ℕ). total k s.m (weight_in s.w.now)) (le_antisymm c.before.loop.invariant.0 c.loop-test.false)
 
 pub total-spec : {M : Type 1} → statement M
 total-spec =

@@ -3,25 +3,25 @@ use mathlib.Core.Path.{sym, ap, ◌∙◌}
 use mathlib.Core.Bool.{Bool, not, ◌||◌, or-true}
 use native.Mathlib.Omega.{arith}
 use borrow.Author.Tests.{ne_eqb}
-use Rattle.rule.specs.Numbers.{countsBad}
-use Rattle.table.specs.BodyStarts.{bodySize}
+use Rattle.rule.specs.Numbers.{counts_bad}
+use Rattle.table.specs.BodyStarts.{body_size}
 use Rattle.book_judge.specs.Read.{length_of}
-use Rattle.book_judge.specs.BookJudgeInner.{bodyIn, bodyBad}
+use Rattle.book_judge.specs.BookJudgeInner.{body_in, body_bad}
 use borrow.Author.Rules.{rules}
 use Rattle.book_judge.proofs.body_bad.Statement.{statement}
 use Rattle.book_judge.proofs.body_bad.Tie as tie
 
 returns : tie.Need-returns
-unfolding bodyBad
+unfolding body_bad
 returns c =
     let a = c.before.before.before.before.args in
-    let r = bodyIn a.s.now a.i in
-    sym (ap (λ (b : Bool). countsBad r || not b)
-    (ne_eqb (length_of a.s.now a.i) (bodySize r) (λ e. omega (arith, c.before.size.ensures.0)))
-    ∙ or-true (countsBad r))
+    let r = body_in a.s.now a.i in
+    sym (ap (λ (b : Bool). counts_bad r || not b)
+    (ne_eqb (length_of a.s.now a.i) (body_size r) (λ e. omega (arith, c.before.size.ensures.0)))
+    ∙ or-true (counts_bad r))
 
 returns-2 : tie.Need-returns-2
-unfolding bodyBad countsBad
+unfolding body_bad counts_bad
 returns-2 c =
     let k = c.before.before.before in
     let n = k.before.counts-at.ensures in

@@ -5,10 +5,10 @@ use Prim.Native.Nat.{ℕ, ◌+◌, ◌*◌, ◌≤◌, ◌-◌}
 use native.Mathlib.Omega.{arith}
 use lib.Dec.{eqb}
 use borrow.Author.Tests.{lt-ltb, le-ltb}
-use Rattle.mask.proofs.LoopsLaws.{Sought, sought-none, sought-more, sought-all}
+use Rattle.mask.proofs.LoopsLaws.{Sought, sought_none, sought_more, sought_all}
 use Rattle.table.specs.BodyStarts.{start_at}
 use Rattle.table.proofs.BodyStartsLaws.{start-more}
-use Rattle.book_judge.specs.Read.{start_of, length_of, contentsBad}
+use Rattle.book_judge.specs.Read.{start_of, length_of, contents_bad}
 use borrow.Author.Rules.{rules}
 use Rattle.book_judge.proofs.contents_bad.Statement.{statement}
 use Rattle.book_judge.proofs.contents_bad.Tie as tie
@@ -22,12 +22,12 @@ abbrev decreases-loop : tie.decreases-loop
 decreases-loop s n end₀ bad₀ i₀ end bad i = n - i
 
 returns : tie.Need-returns invariant-loop decreases-loop
-unfolding contentsBad
+unfolding contents_bad
 returns c = rw (lt-ltb _ _ c.if1.true)
 
 loop-holds : tie.Need-loop-init invariant-loop decreases-loop
 unfolding start_at
-loop-holds c = (search rules, refl, search rules, sought-none)
+loop-holds c = (search rules, refl, search rules, sought_none)
 
 loop-again : tie.Need-loop-preserved invariant-loop decreases-loop
 loop-again c =
@@ -35,16 +35,16 @@ loop-again c =
       search rules,
       rw (start-more, l.invariant.1, c.size.ensures.0),
       search rules,
-      sought-more l.invariant.3 (ap₂ (λ (x y : ℕ). not (eqb x y)) c.before.start.ensures.0 l.invariant.1),
+      sought_more l.invariant.3 (ap₂ (λ (x y : ℕ). not (eqb x y)) c.before.start.ensures.0 l.invariant.1),
     )
 
 returns-2 : tie.Need-returns-2 invariant-loop decreases-loop
-unfolding contentsBad
+unfolding contents_bad
 returns-2 c =
     let l = c.before.loop in
     let b = c.before.before in
     let e : l.i ≡ b.before.before.args.n = omega arith in
-    rw (le-ltb _ _ b.if1.false, sought-all l.invariant.3 l.invariant.0 c.loop-test.false, l.invariant.1, e)
+    rw (le-ltb _ _ b.if1.false, sought_all l.invariant.3 l.invariant.0 c.loop-test.false, l.invariant.1, e)
 
 pub contents-bad-spec : {M : Type 1} → statement M
 contents-bad-spec =

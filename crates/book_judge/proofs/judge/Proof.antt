@@ -2,10 +2,10 @@
 use mathlib.Core.Path.{◌≡◌, sym, ap, ◌∙◌}
 use mathlib.Core.Bool.{false}
 use borrow.Author.Tests.{lt-ltb, le-ltb}
-use Rattle.table.specs.Check.{sizesBad}
+use Rattle.table.specs.Check.{sizes_bad}
 use Rattle.table.proofs.SoundLaws.{Sized, sized}
-use Rattle.book_judge.specs.Read.{lengthBad, contentsBad, read_of}
-use Rattle.book_judge.specs.BookJudgeInner.{n_of, k_of, bodiesOf}
+use Rattle.book_judge.specs.Read.{length_bad, contents_bad, read_of}
+use Rattle.book_judge.specs.BookJudgeInner.{n_of, k_of, bodies_of}
 use Rattle.book_judge.proofs.InsideLaws.{fitting, inside}
 use borrow.Author.Rules.{rules}
 use Rattle.book_judge.proofs.judge.Statement.{statement}
@@ -20,7 +20,7 @@ unfolding read_of
 returns-2 c = rw (c.refused2.ensures, le-ltb _ _ c.before.before.if1.false, lt-ltb _ _ c.before.if2.true)
 
 -- past the first two tests the length is right
-long : (c : tie.Else2) → lengthBad c.before.before.before.args.book.now ≡ false
+long : (c : tie.Else2) → length_bad c.before.before.before.args.book.now ≡ false
 long c = rw (le-ltb _ _ c.before.if1.false, le-ltb _ _ c.if2.false)
 
 returns-3 : tie.Need-returns-3
@@ -42,7 +42,7 @@ returns-4 c =
 -- past the fourth the sizes are
 sized-good : (c : tie.Else4) →
     let s = c.before.before.before.before.before.before.before.before.before.before.args.book.now in
-    sizesBad (n_of s) (k_of s) ≡ false
+    sizes_bad (n_of s) (k_of s) ≡ false
 sized-good c = sym c.before.sizes-bad.ensures ∙ c.if4.false
 
 sizes : (c : tie.Else4) →
@@ -57,10 +57,10 @@ contents-bad-requires c κs = rw c.count.ensures.0 (sizes c.before).rules
 
 contents : (c : tie.After-contents-bad) →
     let s = c.before.before.before.before.before.before.before.before.before.before.before.before.args.book.now in
-    contentsBad s (n_of s) ≡ c.contents-bad.result
+    contents_bad s (n_of s) ≡ c.contents-bad.result
 contents c =
     let s = c.before.before.before.before.before.before.before.before.before.before.before.before.args.book.now in
-    ap (contentsBad s) (sym c.before.count.ensures.0) ∙ sym c.contents-bad.ensures
+    ap (contents_bad s) (sym c.before.count.ensures.0) ∙ sym c.contents-bad.ensures
 
 returns-5 : tie.Need-returns-5
 unfolding read_of
@@ -83,7 +83,7 @@ judge-bodies-requires c κs =
     (search rules, search rules, (sizes e).cells, inside s (n_of s) (sizes e).rules f)
 
 returns-6 : tie.Need-returns-6
-unfolding read_of bodiesOf
+unfolding read_of bodies_of
 returns-6 c =
     let e = c.before.before.before.before in
     let d = e.before.before in

@@ -1,4 +1,4 @@
--- The rules passed have no number, and the rows hold their names and masks; each return is the case of `bodiesOf` that its tests leave.
+-- The rules passed have no number, and the rows hold their names and masks; each return is the case of `bodies_of` that its tests leave.
 use mathlib.Core.Path.{◌≡◌, refl, sym, ap, ap₂, ◌∙◌, subst, subst₂}
 use mathlib.Core.Bool.{Bool, true, false, cond}
 use mathlib.Core.List.{List}
@@ -8,17 +8,17 @@ use lib.ListN.{length, set}
 use Rattle.mask.proofs.LoopsLaws.{Passed, passed_none, passed-more}
 use Rattle.graph.specs.Graph.{cyclic}
 use Rattle.bytes.specs.EachByte.{Bytes}
-use Rattle.bytes.specs.Little.{u32_at, u64At}
+use Rattle.bytes.specs.Little.{u32_at, u64_at}
 use Rattle.rule.specs.declared.Rule.{Rule}
 use Rattle.rule.specs.Fill.{filled}
 use Rattle.rule.proofs.FillLaws.{filled_more}
-use Rattle.rule.specs.Numbers.{notZero, ruleNumber}
-use Rattle.rule_check.specs.RuleCheckInner.{numberWith, takenIn}
+use Rattle.rule.specs.Numbers.{not_zero, rule_number}
+use Rattle.rule_check.specs.RuleCheckInner.{number_with, taken_in}
 use Rattle.rule_check.proofs.NamesLaws.{Named, named_none, named_more, number-named}
-use Rattle.table.specs.Table.{ruleAt, precedesOf}
-use Rattle.book_judge.specs.Read.{ruleIn, number_in, tableIn, refusal, told}
-use Rattle.book_judge.specs.BookJudgeInner.{taken, n_of, k_of, bodyIn, bodyBad, Stretch, bodiesOf}
-use Rattle.book_judge.proofs.ReadLaws.{rule-in, number-body, number-good, refused-at, none-refused}
+use Rattle.table.specs.Table.{rule_at, precedes_of}
+use Rattle.book_judge.specs.Read.{rule_in, number_in, table_in, refusal, told}
+use Rattle.book_judge.specs.BookJudgeInner.{taken, n_of, k_of, body_in, body_bad, Stretch, bodies_of}
+use Rattle.book_judge.proofs.ReadLaws.{rule_in_lem, number-body, number-good, refused-at, none-refused}
 use Rattle.book_judge.proofs.InsideLaws.{counts, room}
 use Rattle.book_judge.proofs.JudgeLaws.{body-long, body_bytes}
 use borrow.Author.Rules.{rules}
@@ -27,9 +27,9 @@ use Rattle.book_judge.proofs.judge_bodies.Tie as tie
 
 abbrev invariant-loop : tie.invariant-loop
 invariant-loop s n k names₀ row₀ i₀ i-end names row i =
-    (i ≤ i-end) × (i-end ≡ n) × (length names ≡ 64) × (row ≡ filled 32 0 (λ x. (ruleAt (tableIn s) x).precedes) i)
-    × Passed (λ x. notZero (number_in s x)) i
-    × Named names (tableIn s).rules i
+    (i ≤ i-end) × (i-end ≡ n) × (length names ≡ 64) × (row ≡ filled 32 0 (λ x. (rule_at (table_in s) x).precedes) i)
+    × Passed (λ x. not_zero (number_in s x)) i
+    × Named names (table_in s).rules i
 
 abbrev decreases-loop : tie.decreases-loop
 decreases-loop s n k names₀ row₀ i₀ i-end names row i = i-end - i
@@ -65,13 +65,13 @@ returns c =
     let d = c.before.before.before in
     let l = d.before.loop in
     let s = book d in
-    let e : bodyBad s l.i ≡ true = sym c.before.before.body-bad.ensures ∙ c.before.if1.true in
+    let e : body_bad s l.i ≡ true = sym c.before.before.body-bad.ensures ∙ c.before.if1.true in
     c.refused.ensures
     ∙ ap told
     (sym (refused-at s l.i l.invariant.4 5 (low d) (number-body s l.i (low d) e) (λ z. omega arith)))
 
 -- past the first test the body is good
-good : (c : tie.Else1 invariant-loop decreases-loop) → bodyBad (book c.before.before) c.before.before.before.loop.i ≡ false
+good : (c : tie.Else1 invariant-loop decreases-loop) → body_bad (book c.before.before) c.before.before.before.loop.i ≡ false
 good c = sym c.before.body-bad.ensures ∙ c.if1.false
 
 start-requires : tie.Need-start-requires invariant-loop decreases-loop
@@ -92,8 +92,8 @@ module _ (c : tie.After-name-of invariant-loop decreases-loop) where
   abbrev turn : tie.In-loop invariant-loop decreases-loop
   turn = c.before.before.before.before
 
-  named : c.name_of.result ≡ (bodyIn (book turn) turn.before.loop.i).name
-  named = c.name_of.ensures ∙ ap (λ (p : ℕ). (ruleIn (book turn) p).name) c.before.start.ensures.0
+  named : c.name_of.result ≡ (body_in (book turn) turn.before.loop.i).name
+  named = c.name_of.ensures ∙ ap (λ (p : ℕ). (rule_in (book turn) p).name) c.before.start.ensures.0
 
   long : length c.name_of.result ≡ 16
   long = ap (λ (x : List ℕ). length x) named ∙ body-long (book turn) turn.before.loop.i (good c.before.before)
@@ -118,7 +118,7 @@ module _ (c : tie.After-number-of invariant-loop decreases-loop) where
   body = c.before.before.before.before.before.before.before
 
   abbrev rule : Rule
-  rule = bodyIn (book (turn body)) (turn body).before.loop.i
+  rule = body_in (book (turn body)) (turn body).before.loop.i
 
   letters : Bytes rule.name
   letters = body_bytes (book (turn body)) (turn body).before.loop.i (good body.before.before) (bytes (turn body))
@@ -126,25 +126,25 @@ module _ (c : tie.After-number-of invariant-loop decreases-loop) where
   whole-name : length rule.name ≡ 16
   whole-name = body-long (book (turn body)) (turn body).before.loop.i (good body.before.before)
 
-  low_word : c.before.before.before.before.before.u64-at.result ≡ u64At rule.name 0
-  low_word = c.before.before.before.before.before.u64-at.ensures ∙ ap (λ (x : List ℕ). u64At x 0) (named body)
+  low_word : c.before.before.before.before.before.u64-at.result ≡ u64_at rule.name 0
+  low_word = c.before.before.before.before.before.u64-at.ensures ∙ ap (λ (x : List ℕ). u64_at x 0) (named body)
 
-  high_word : c.before.before.before.u64-at2.result ≡ u64At rule.name 8
-  high_word = c.before.before.before.u64-at2.ensures ∙ ap (λ (x : List ℕ). u64At x 8) (named body)
+  high_word : c.before.before.before.u64-at2.result ≡ u64_at rule.name 8
+  high_word = c.before.before.before.u64-at2.ensures ∙ ap (λ (x : List ℕ). u64_at x 8) (named body)
 
   -- the number that was given is the rule's, after the rules before it
   number : let s = book (turn body) in
-      c.number_of_lem.result ≡ ruleNumber (n_of s) (k_of s) (tableIn s).rules (turn body).before.loop.i rule
+      c.number_of_lem.result ≡ rule_number (n_of s) (k_of s) (table_in s).rules (turn body).before.loop.i rule
   number =
       let a = (turn body).before in
       let z = a.before.before.before in
       let s = book (turn body) in
       c.number_of_lem.ensures
-      ∙ ap₂ (λ (b : Bool) (p : ℕ). numberWith z.args.n z.args.k b (ruleIn s p))
-      (c.before.taken.ensures ∙ ap₂ (takenIn a.loop.names a.loop.i) low_word high_word) body.before.start.ensures.0
-      ∙ number-named z.args.n z.args.k a.loop.names (tableIn s).rules a.loop.i rule
+      ∙ ap₂ (λ (b : Bool) (p : ℕ). number_with z.args.n z.args.k b (rule_in s p))
+      (c.before.taken.ensures ∙ ap₂ (taken_in a.loop.names a.loop.i) low_word high_word) body.before.start.ensures.0
+      ∙ number-named z.args.n z.args.k a.loop.names (table_in s).rules a.loop.i rule
       a.loop.inv.5 letters whole-name
-      ∙ ap₂ (λ (n k : ℕ). ruleNumber n k (tableIn s).rules a.loop.i rule) z.pre.0 z.pre.1
+      ∙ ap₂ (λ (n k : ℕ). rule_number n k (table_in s).rules a.loop.i rule) z.pre.0 z.pre.1
 
   found : number_in (book (turn body)) (turn body).before.loop.i ≡ c.number_of_lem.result
   found = number-good (book (turn body)) (turn body).before.loop.i (low (turn body)) (good body.before.before) ∙ sym number
@@ -172,18 +172,18 @@ loop-again c =
     let a = d.before in
     let s = book d in
     let i = a.loop.i in
-    let mine : ruleAt (tableIn s) i ≡ rule w = rule-in s i (low d) in
-    let e : c.u32-at.result ≡ (ruleAt (tableIn s) i).precedes =
+    let mine : rule_at (table_in s) i ≡ rule w = rule_in_lem s i (low d) in
+    let e : c.u32-at.result ≡ (rule_at (table_in s) i).precedes =
     c.u32-at.ensures ∙ ap (λ (p : ℕ). u32_at s (p + 4)) r.before.start.ensures.0 ∙ ap (λ (x : Rule). x.precedes) (sym mine) in (
       omega (arith, d.loop-test.taken),
       a.loop.inv.1,
       search rules,
       ap₂ (λ (q : List ℕ) (v : ℕ). set q i v) a.loop.inv.3 e
-          ∙ filled_more 32 0 (λ (x : ℕ). (ruleAt (tableIn s) x).precedes) i (small d),
-      passed-more a.loop.inv.4 (ap notZero (found w ∙ c.before.if2.false)),
-      subst₂ (λ (x y : ℕ). Named (set (set a.loop.names (2 * i) x) (2 * i + 1) y) (tableIn s).rules (i + 1))
+          ∙ filled_more 32 0 (λ (x : ℕ). (rule_at (table_in s) x).precedes) i (small d),
+      passed-more a.loop.inv.4 (ap not_zero (found w ∙ c.before.if2.false)),
+      subst₂ (λ (x y : ℕ). Named (set (set a.loop.names (2 * i) x) (2 * i + 1) y) (table_in s).rules (i + 1))
           (sym (low_word w)) (sym (high_word w))
-          (named_more (n_of s) (k_of s) a.loop.names (tableIn s).rules i (rule w)
+          (named_more (n_of s) (k_of s) a.loop.names (table_in s).rules i (rule w)
           a.loop.inv.5 a.loop.inv.2 (small d) mine (letters w) (whole-name w) (sym (number w) ∙ c.before.if2.false)),
     )
 
@@ -204,19 +204,19 @@ row-cyclic-requires c κs =
     omega (arith, c.count2.ensures.0, z.requires.3.few)
 
 circles : (c : tie.After-row-cyclic invariant-loop decreases-loop)
-    → let s = whole c.before.before in cyclic (n_of s) (precedesOf (tableIn s)) ≡ c.row-cyclic.result
-unfolding tableIn
+    → let s = whole c.before.before in cyclic (n_of s) (precedes_of (table_in s)) ≡ c.row-cyclic.result
+unfolding table_in
 circles c =
     let d = c.before.before in
     let z = d.before.before.before.before in
     let s = whole d in
-    let f : ℕ → ℕ = λ x. (ruleAt (tableIn s) x).precedes in
+    let f : ℕ → ℕ = λ x. (rule_at (table_in s) x).precedes in
     sym (c.row-cyclic.ensures
     ∙ ap₂ cyclic (c.before.count2.ensures.0 ∙ z.requires.0) (d.before.loop.invariant.3 ∙ ap (filled 32 0 f) (same d)))
 
 -- no rule has a number: what is left is 10
 ended : (c : tie.After-row-cyclic invariant-loop decreases-loop)
-    → let s = whole c.before.before in bodiesOf s ≡ cond c.row-cyclic.result (refusal 10 255) (taken (tableIn s))
+    → let s = whole c.before.before in bodies_of s ≡ cond c.row-cyclic.result (refusal 10 255) (taken (table_in s))
 ended c =
     let d = c.before.before in
     let l = d.before.loop in

@@ -1,5 +1,5 @@
 -- A body lies in the bytes by its own counts, so its number is that of the rule that it holds.
-use Rattle.book_judge.proofs.JudgeLaws.{stretch-lies}
+use Rattle.book_judge.proofs.JudgeLaws.{stretch_lies}
 use borrow.Author.Rules.{rules}
 use Rattle.book_judge.proofs.number_of.Statement.{statement}
 use Rattle.book_judge.proofs.number_of.Tie as tie
@@ -8,7 +8,7 @@ number-in-requires : tie.Need-number-in-requires
 number-in-requires c κs =
     let a = c.before.before in
     let n = c.counts-at.ensures in
-    (rw (n.tests, n.assigns, n.letters) (stretch-lies a.args.s.now a.args.at a.requires.0), a.requires.1, a.requires.2)
+    (rw (n.tests, n.assigns, n.letters) (stretch_lies a.args.s.now a.args.at a.requires.0), a.requires.1, a.requires.2)
 
 returns : tie.Need-returns
 returns c =

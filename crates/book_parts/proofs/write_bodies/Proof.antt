@@ -9,15 +9,15 @@ use Rattle.bytes.proofs.PutLaws.{put-nil}
 use Rattle.bytes.specs.Joined.{joined}
 use Rattle.bytes.proofs.JoinedLaws.{put-joined}
 use Rattle.rule.specs.declared.Rule.{Rule}
-use Rattle.rule.specs.Empty.{noRule}
+use Rattle.rule.specs.Empty.{no_rule}
 use Rattle.rule.specs.RuleInner.{Counted}
-use Rattle.rule_write.specs.Pieces.{bodyBytes}
-use Rattle.table.specs.Memory.{tableFrom}
-use Rattle.table.specs.TableInner.{ruleFrom}
+use Rattle.rule_write.specs.Pieces.{body_bytes}
+use Rattle.table.specs.Memory.{table_from}
+use Rattle.table.specs.TableInner.{rule_from}
 use Rattle.table.proofs.ImageLaws.{rule-from}
-use Rattle.table.specs.BodyStarts.{bodySize, start_at}
+use Rattle.table.specs.BodyStarts.{body_size, start_at}
 use Rattle.table.proofs.BodyStartsLaws.{start-more, starts-within}
-use Rattle.book_parts.specs.BookPartsInner.{sizesOf, bodiesBytes}
+use Rattle.book_parts.specs.BookPartsInner.{sizes_of, bodies_bytes}
 use Rattle.book_parts.proofs.PartsLaws.{length-bodies}
 use borrow.Author.Rules.{rules}
 use Rattle.book_parts.proofs.write_bodies.Statement.{statement}
@@ -26,8 +26,8 @@ use Rattle.book_parts.proofs.write_bodies.Tie as tie
 abbrev invariant-loop : tie.invariant-loop
 invariant-loop out₀ s n at₀ i₀ out at i =
     (i ≤ n)
-    × (at ≡ start_at n (sizesOf (tableFrom s).rules) i)
-    × (out ≡ put out₀ (4 + 4 * n) (bodiesBytes (tableFrom s).rules i))
+    × (at ≡ start_at n (sizes_of (table_from s).rules) i)
+    × (out ≡ put out₀ (4 + 4 * n) (bodies_bytes (table_from s).rules i))
     × (length out ≡ length out₀)
 
 abbrev decreases-loop : tie.decreases-loop
@@ -47,16 +47,16 @@ module _ (c : tie.In-loop invariant-loop decreases-loop) where
   image = start.args.s.now
 
   abbrev rules : List Rule
-  rules = (tableFrom image).rules
+  rules = (table_from image).rules
 
   small : c.before.loop.i < 32
   small = omega (arith, c.loop-test.true, start.pre.0.few)
 
-  rule-is : get_or rules c.before.loop.i noRule ≡ ruleFrom image c.before.loop.i
+  rule-is : get_or rules c.before.loop.i no_rule ≡ rule_from image c.before.loop.i
   rule-is = rule-from image c.before.loop.i small
 
   -- the next body lies in the buffer
-  inside : c.before.loop.at + bodySize (ruleFrom image c.before.loop.i) ≤ length c.before.loop.out
+  inside : c.before.loop.at + body_size (rule_from image c.before.loop.i) ≤ length c.before.loop.out
   inside =
       let l = c.before.loop in
       omega (
@@ -64,8 +64,8 @@ module _ (c : tie.In-loop invariant-loop decreases-loop) where
         l.invariant.1,
         l.invariant.3,
         start.pre.2,
-        starts-within start.args.n (sizesOf rules) l.i c.loop-test.true,
-        ap bodySize rule-is,
+        starts-within start.args.n (sizes_of rules) l.i c.loop-test.true,
+        ap body_size rule-is,
       )
 
 write-body-requires : tie.Need-write-body-requires invariant-loop decreases-loop
@@ -90,9 +90,9 @@ loop-again c =
     let room = inside t in
     let e = sym (rule-is t) in (
       search rules,
-      ap₂ ◌+◌ l.invariant.1 (c.body-size.ensures.0 ∙ ap bodySize e) ∙ sym (start-more a.n (sizesOf (rules t)) i),
-      put-joined a.out.now (4 + 4 * a.n) (λ j. bodyBytes (get_or (rules t) j noRule)) i l.invariant.2 (omega arith)
-          l.at (omega arith) (w.write-body.ensures ∙ ap (λ (r : Rule). put l.out l.at (bodyBytes r)) e),
+      ap₂ ◌+◌ l.invariant.1 (c.body-size.ensures.0 ∙ ap body_size e) ∙ sym (start-more a.n (sizes_of (rules t)) i),
+      put-joined a.out.now (4 + 4 * a.n) (λ j. body_bytes (get_or (rules t) j no_rule)) i l.invariant.2 (omega arith)
+          l.at (omega arith) (w.write-body.ensures ∙ ap (λ (r : Rule). put l.out l.at (body_bytes r)) e),
       search rules,
     )
 
@@ -101,7 +101,7 @@ returns c =
     let l = c.before.loop in
     let a = c.before.before.before.before.args in
     let e : l.i ≡ a.n = omega arith in
-    l.invariant.2 ∙ ap (λ (i : ℕ). put a.out.now (4 + 4 * a.n) (bodiesBytes (tableFrom a.s.now).rules i)) e
+    l.invariant.2 ∙ ap (λ (i : ℕ). put a.out.now (4 + 4 * a.n) (bodies_bytes (table_from a.s.now).rules i)) e
 
 pub write-bodies-spec : {M : Type 1} → statement M
 write-bodies-spec =

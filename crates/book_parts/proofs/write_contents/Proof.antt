@@ -6,15 +6,15 @@ use native.Mathlib.Omega.{arith}
 use lib.ListN.{length}
 use Rattle.bytes.specs.Put.{put}
 use Rattle.bytes.proofs.PutLaws.{put-nil}
-use Rattle.bytes.specs.Bytes.{u16Bytes}
+use Rattle.bytes.specs.Bytes.{u16_bytes}
 use Rattle.bytes.specs.Joined.{joined}
 use Rattle.bytes.proofs.JoinedLaws.{put-joined}
 use Rattle.rule.specs.declared.Rule.{Rule}
-use Rattle.table.specs.Memory.{tableFrom}
+use Rattle.table.specs.Memory.{table_from}
 use Rattle.table.proofs.ImageLaws.{rule-from}
-use Rattle.table.specs.BodyStarts.{bodySize, start_at}
+use Rattle.table.specs.BodyStarts.{body_size, start_at}
 use Rattle.table.proofs.BodyStartsLaws.{start-more}
-use Rattle.book_parts.specs.BookPartsInner.{sizesOf, entryBytes, contentsBytes}
+use Rattle.book_parts.specs.BookPartsInner.{sizes_of, entry_bytes, contents_bytes}
 use Rattle.book_parts.proofs.PartsLaws.{start-most, length-contents}
 use borrow.Author.Rules.{rules}
 use Rattle.book_parts.proofs.write_contents.Statement.{statement}
@@ -23,8 +23,8 @@ use Rattle.book_parts.proofs.write_contents.Tie as tie
 abbrev invariant-loop : tie.invariant-loop
 invariant-loop out₀ s n start₀ i₀ out start i =
     (i ≤ n)
-    × (start ≡ start_at n (sizesOf (tableFrom s).rules) i)
-    × (out ≡ put out₀ 4 (contentsBytes n (tableFrom s).rules i))
+    × (start ≡ start_at n (sizes_of (table_from s).rules) i)
+    × (out ≡ put out₀ 4 (contents_bytes n (table_from s).rules i))
     × (length out ≡ length out₀)
 
 abbrev decreases-loop : tie.decreases-loop
@@ -39,7 +39,7 @@ module _ (c : tie.In-loop invariant-loop decreases-loop) where
   start = c.before.before.before.before
 
   abbrev rules : List Rule
-  rules = (tableFrom start.args.s.now).rules
+  rules = (table_from start.args.s.now).rules
 
   small : c.before.loop.i < 32
   small = omega (arith, c.loop-test.true, start.pre.0.few)
@@ -55,10 +55,10 @@ body-size-requires c κs = (small c, search rules)
 
 -- the length of body i
 size_is : (c : tie.After-body-size invariant-loop decreases-loop)
-    → c.body-size.result ≡ sizesOf (rules c.before) c.before.before.loop.i
+    → c.body-size.result ≡ sizes_of (rules c.before) c.before.before.loop.i
 size_is c =
     c.body-size.ensures.0
-    ∙ ap bodySize (sym (rule-from (start c.before).args.s.now c.before.before.loop.i (small c.before)))
+    ∙ ap body_size (sym (rule-from (start c.before).args.s.now c.before.before.loop.i (small c.before)))
 
 write-entry-requires : tie.Need-write-entry-requires invariant-loop decreases-loop
 write-entry-requires c κs =
@@ -83,10 +83,10 @@ loop-again c =
     let n = length-contents a.n (rules t) i in
     let room = (start t).requires.2 in (
       search rules,
-      ap₂ ◌+◌ l.invariant.1 (size_is b) ∙ sym (start-more a.n (sizesOf (rules t)) i),
-      put-joined a.out.now 4 (entryBytes a.n (rules t)) i l.invariant.2 (omega arith) (4 + 4 * i) (omega arith)
+      ap₂ ◌+◌ l.invariant.1 (size_is b) ∙ sym (start-more a.n (sizes_of (rules t)) i),
+      put-joined a.out.now 4 (entry_bytes a.n (rules t)) i l.invariant.2 (omega arith) (4 + 4 * i) (omega arith)
           (w.write-entry.ensures
-          ∙ ap₂ (λ (x y : ℕ). put l.out (4 + 4 * i) (u16Bytes x ++ u16Bytes y)) l.invariant.1 (size_is b)),
+          ∙ ap₂ (λ (x y : ℕ). put l.out (4 + 4 * i) (u16_bytes x ++ u16_bytes y)) l.invariant.1 (size_is b)),
       search rules,
     )
 
@@ -95,7 +95,7 @@ returns c =
     let l = c.before.loop in
     let a = c.before.before.before.before.args in
     let e : l.i ≡ a.n = omega arith in
-    l.invariant.2 ∙ ap (λ (i : ℕ). put a.out.now 4 (contentsBytes a.n (tableFrom a.s.now).rules i)) e
+    l.invariant.2 ∙ ap (λ (i : ℕ). put a.out.now 4 (contents_bytes a.n (table_from a.s.now).rules i)) e
 
 pub write-contents-spec : {M : Type 1} → statement M
 write-contents-spec =

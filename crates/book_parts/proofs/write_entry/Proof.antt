@@ -2,8 +2,8 @@
 use Prim.Native.Nat.{◌+◌}
 use native.Mathlib.Omega.{arith}
 use Rattle.bytes.proofs.PutLaws.{put_next}
-use Rattle.bytes.specs.Bytes.{u16Bytes}
-use Rattle.bytes.proofs.BytesLaws.{length-u16}
+use Rattle.bytes.specs.Bytes.{u16_bytes}
+use Rattle.bytes.proofs.BytesLaws.{length_u16}
 use borrow.Author.Rules.{rules}
 use Rattle.book_parts.proofs.write_entry.Statement.{statement}
 use Rattle.book_parts.proofs.write_entry.Tie as tie
@@ -13,9 +13,9 @@ returns c =
     let d = c.before.before in
     let h = d.before.before.before.before in
     let a = h.before.before.before.args in
-    let e = length-u16 a.start in
-    put_next a.out.now a.at (u16Bytes a.start) h.put-u16.ensures (omega arith) (a.at + 2) (omega arith)
-    (u16Bytes a.size) d.put-u162.ensures
+    let e = length_u16 a.start in
+    put_next a.out.now a.at (u16_bytes a.start) h.put-u16.ensures (omega arith) (a.at + 2) (omega arith)
+    (u16_bytes a.size) d.put-u162.ensures
 
 pub write-entry-spec : {M : Type 1} → statement M
 write-entry-spec =

@@ -5,7 +5,7 @@ use lib.ListN.{length, replicate, length-replicate}
 use borrow.Author.Rules.{rules}
 use Rattle.bytes.proofs.PutLaws.{put_whole}
 use Rattle.table.specs.declared.Answer.{Answer}
-use Rattle.table.specs.Memory.{tableBytes}
+use Rattle.table.specs.Memory.{table_bytes}
 use Rattle.table.proofs.ZerosLaws.{empty-zeros}
 use Rattle.book_judge.specs.Read.{Reading, read_of}
 use Rattle.book_judge.proofs.ReadLaws.{Taken, read_done}
@@ -27,7 +27,7 @@ returns c =
       written =
           c.put-zeros.ensures
           ∙ put_whole old (replicate 9092 0) (length-replicate {A = ℕ} 9092 0 ∙ sym size)
-          ∙ sym (ap tableBytes (refused-empty s ne) ∙ empty-zeros);
+          ∙ sym (ap table_bytes (refused-empty s ne) ∙ empty-zeros);
     }
 
 -- past the test the read is done
@@ -45,7 +45,7 @@ returns-2 c =
     let j = d.before.before in
     record {
       answered = j.judge.ensures;
-      written = c.spread.ensures ∙ ap (λ (r : Reading). tableBytes r.table) (sym (done d).reading);
+      written = c.spread.ensures ∙ ap (λ (r : Reading). table_bytes r.table) (sym (done d).reading);
     }
 
 pub read_spec : {M : Type 1} → statement M

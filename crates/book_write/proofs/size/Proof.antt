@@ -6,10 +6,10 @@ use native.Mathlib.Omega.{arith}
 use Rattle.table.proofs.SoundLaws.{sound-by}
 use Rattle.table.specs.Table.{Table}
 use Rattle.table.specs.declared.Answer.{Answer}
-use Rattle.table.specs.Check.{checkOf}
-use Rattle.table.specs.Memory.{tableFrom}
+use Rattle.table.specs.Check.{check_of}
+use Rattle.table.specs.Memory.{table_from}
 use Rattle.table.specs.BodyStarts.{start_at}
-use Rattle.book_parts.specs.BookPartsInner.{sizesOf}
+use Rattle.book_parts.specs.BookPartsInner.{sizes_of}
 use Rattle.book_parts.proofs.PartsLaws.{ready}
 use Rattle.book_write.proofs.BookLaws.{length-book}
 use Rattle.book_parts.proofs.BodyWriteLaws.{count-from}
@@ -22,7 +22,7 @@ use Rattle.book_write.proofs.size.Tie as tie
 returns : tie.Need-returns
 returns c =
     let k = c.before.before in
-    let t = tableFrom k.before.args.table.now in
+    let t = table_from k.before.args.table.now in
     sym (size-refused t (λ e. c.if1.true (ap (λ (a : Answer). a.number) k.check.ensures ∙ e))
     ∙ ap (λ (a : Answer). written a.number a.place 0) (sym k.check.ensures))
 
@@ -31,9 +31,9 @@ module _ (c : tie.After-count) where
   image = c.before.before.before.before.before.before.args.table.now
 
   abbrev T : Table
-  T = tableFrom image
+  T = table_from image
 
-  none : (checkOf T).number ≡ 0
+  none : (check_of T).number ≡ 0
   none =
       let d = c.before.before.before in
       sym (ap (λ (a : Answer). a.number) d.before.before.check.ensures) ∙ d.if1.false
@@ -48,7 +48,7 @@ returns-2 : tie.Need-returns-2
 returns-2 c =
     let d = c.before in
     ap (written 0 255)
-    (c.end_of_lem.ensures ∙ (ap (λ (n : ℕ). start_at n (sizesOf (T d).rules) n) (counted d) ∙ sym (length-book (T d))))
+    (c.end_of_lem.ensures ∙ (ap (λ (n : ℕ). start_at n (sizes_of (T d).rules) n) (counted d) ∙ sym (length-book (T d))))
     ∙ sym (size-done (T d) (none d))
 
 pub size-spec : {M : Type 1} → statement M

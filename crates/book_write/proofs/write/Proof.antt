@@ -8,11 +8,11 @@ use Rattle.bytes.specs.Put.{put}
 use Rattle.table.proofs.SoundLaws.{sound-by}
 use Rattle.table.specs.Table.{Table}
 use Rattle.table.specs.declared.Answer.{Answer}
-use Rattle.table.specs.Check.{checkOf}
-use Rattle.table.specs.Memory.{tableFrom}
+use Rattle.table.specs.Check.{check_of}
+use Rattle.table.specs.Memory.{table_from}
 use Rattle.table.specs.BodyStarts.{start_at}
-use Rattle.book_write.specs.Book.{bookOf}
-use Rattle.book_parts.specs.BookPartsInner.{Ready, sizesOf, contentsBytes, bodiesBytes}
+use Rattle.book_write.specs.Book.{book_of}
+use Rattle.book_parts.specs.BookPartsInner.{Ready, sizes_of, contents_bytes, bodies_bytes}
 use Rattle.book_parts.proofs.PartsLaws.{ready, length-bodies}
 use Rattle.book_write.proofs.BookLaws.{length-book}
 use Rattle.book_parts.proofs.BodyWriteLaws.{count-from, head-from}
@@ -27,7 +27,7 @@ returns c =
     let k = c.before.before in
     let a = k.before.before.args in
     let e = k.check.ensures in
-    sym (write-refused (tableFrom a.table.now) a.out.now (λ z. c.if1.true (ap (λ (x : Answer). x.number) e ∙ z))
+    sym (write-refused (table_from a.table.now) a.out.now (λ z. c.if1.true (ap (λ (x : Answer). x.number) e ∙ z))
     ∙ ap (λ (x : Answer). (written x.number x.place 0, a.out.now)) (sym e))
 
 -- past the checks: the table, and that it is sound
@@ -36,12 +36,12 @@ module _ (c : tie.After-count) where
   start = c.before.before.before.before.before.before
 
   abbrev T : Table
-  T = tableFrom start.args.table.now
+  T = table_from start.args.table.now
 
   abbrev old : List ℕ
   old = start.args.out.now
 
-  none : (checkOf T).number ≡ 0
+  none : (check_of T).number ≡ 0
   none =
       let d = c.before.before in
       sym (ap (λ (a : Answer). a.number) d.before.before.check.ensures) ∙ d.if1.false
@@ -55,10 +55,10 @@ module _ (c : tie.After-count) where
 end-of-requires : tie.Need-end-of-requires
 end-of-requires c κs = ((rules-ready c.before).few, search rules)
 
-size_is : (c : tie.After-end-of) → c.end_of_lem.result ≡ length (bookOf (T c.before.before))
+size_is : (c : tie.After-end-of) → c.end_of_lem.result ≡ length (book_of (T c.before.before))
 size_is c =
     let d = c.before.before in
-    c.end_of_lem.ensures ∙ (ap (λ (n : ℕ). start_at n (sizesOf (T d).rules) n) (counted d) ∙ sym (length-book (T d)))
+    c.end_of_lem.ensures ∙ (ap (λ (n : ℕ). start_at n (sizes_of (T d).rules) n) (counted d) ∙ sym (length-book (T d)))
 
 returns-2 : tie.Need-returns-2
 returns-2 c =
@@ -69,7 +69,7 @@ returns-2 c =
 -- there is room for the bodies
 enough : (c : tie.Else2)
     → let d = c.before.before.before in
-    4 + 4 * d.count.result + length (bodiesBytes (T d).rules d.count.result) ≤ length (old d)
+    4 + 4 * d.count.result + length (bodies_bytes (T d).rules d.count.result) ≤ length (old d)
 enough c =
     let d = c.before.before.before in
     omega (arith, length-bodies d.count.result (T d).rules d.count.result, c.before.end_of_lem.ensures, c.if2.false)
@@ -104,13 +104,13 @@ returns-3 c =
     let d = s.before.before in
     let t = T d in
     let l = old d in
-    let room : length (bookOf t) ≤ length l = omega (arith, p.before.before.before.before.if2.false, size_is s) in
+    let room : length (book_of t) ≤ length l = omega (arith, p.before.before.before.before.if2.false, size_is s) in
     let e = counted d in
     let whole = put-book t l room
     (p.put_4.ensures ∙ ap (put l 0) (head-from (start d).args.table.now))
-    (w.write-contents.ensures ∙ ap (λ (n : ℕ). put p.put_4.new.0 4 (contentsBytes n t.rules n)) e)
+    (w.write-contents.ensures ∙ ap (λ (n : ℕ). put p.put_4.new.0 4 (contents_bytes n t.rules n)) e)
     (b.write-bodies.ensures
-    ∙ ap (λ (n : ℕ). put w.write-contents.new.0 (4 + 4 * n) (bodiesBytes t.rules n)) e) in
+    ∙ ap (λ (n : ℕ). put w.write-contents.new.0 (4 + 4 * n) (bodies_bytes t.rules n)) e) in
     ap₂ (λ (n : ℕ) (x : List ℕ). (written 0 255 n, x)) (size_is s) whole ∙ sym (write_done t l (none d) room)
 
 pub write_spec : {M : Type 1} → statement M

@@ -4,18 +4,18 @@ use Prim.Native.Nat.{ℕ}
 use mir.Facts.{to_z-of_z}
 use borrow.Author.Rules.{rules}
 use Rattle.bytes.specs.Put.{put}
-use Rattle.bytes.specs.Bytes.{unsigned, u64Bytes, i64Bytes}
+use Rattle.bytes.specs.Bytes.{unsigned, u64_bytes, i64_bytes}
 use Rattle.bytes.proofs.put_i64.Statement.{statement}
 use Rattle.bytes.proofs.put_i64.Tie as tie
 
 returns : tie.Need-returns
-unfolding i64Bytes
+unfolding i64_bytes
 returns c =
     let d = c.before.before in
     let h = d.before.before.before.before in
     let a = h.args in
     d.put-u64.ensures
-    ∙ ap (λ (x : ℕ). put a.out.now a.at (u64Bytes x))
+    ∙ ap (λ (x : ℕ). put a.out.now a.at (u64_bytes x))
     (d.before.Unsigned-of.ensures ∙ ap unsigned (to_z-of_z h.ranges.z))
 
 pub put-i64-spec : {M : Type 1} → statement M

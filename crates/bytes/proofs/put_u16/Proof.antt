@@ -5,12 +5,12 @@ use native.Mathlib.Omega.{arith}
 use lib.ListN.{length-set}
 use borrow.Author.Rules.{rules}
 use Rattle.bytes.proofs.PutLaws.{put-set, put-store}
-use Rattle.bytes.specs.Bytes.{u16Bytes}
+use Rattle.bytes.specs.Bytes.{u16_bytes}
 use Rattle.bytes.proofs.put_u16.Statement.{statement}
 use Rattle.bytes.proofs.put_u16.Tie as tie
 
 returns : tie.Need-returns
-unfolding u16Bytes
+unfolding u16_bytes
 returns c =
     let d = c.args.out.now in
     let at = c.args.at in

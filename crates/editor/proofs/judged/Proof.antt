@@ -3,12 +3,12 @@ use mathlib.Core.Path.{refl, sym, ap, ◌∙◌, subst}
 use borrow.Author.Rules.{rules}
 use Rattle.table.specs.declared.Answer.{Answer}
 use Rattle.analysis_pairs.specs.declared.Masks.{Masks}
-use Rattle.analysis_pairs.specs.AnalysisPairsInner.{masksIn}
+use Rattle.analysis_pairs.specs.AnalysisPairsInner.{masks_in}
 use Rattle.analysis_masks.specs.Report.{Reported}
-use Rattle.analysis_marks.specs.AnalysisMarksInner.{noMarks}
-use Rattle.analysis.specs.Says.{refusedReport}
+use Rattle.analysis_marks.specs.AnalysisMarksInner.{no_marks}
+use Rattle.analysis.specs.Says.{refused_report}
 use Rattle.editor_check.specs.EditorCheckInner.{RowChecked}
-use Rattle.editor.proofs.EditorRowsLaws.{checked-in, no_number, orderly}
+use Rattle.editor.proofs.EditorRowsLaws.{checked_in, no_number, orderly}
 use Rattle.editor.proofs.judged.Statement.{statement}
 use Rattle.editor.proofs.judged.Tie as tie
 
@@ -16,21 +16,21 @@ use Rattle.editor.proofs.judged.Tie as tie
 abbrev row : tie.Start → Masks
 row s =
     let a = s.args in
-    masksIn a.n a.watch.now a.reads.now a.writes.now a.precedes.now
+    masks_in a.n a.watch.now a.reads.now a.writes.now a.precedes.now
 
 checked : (c : tie.After-check) → RowChecked (row c.before) c.check.result
-checked c = checked-in (row c.before) c.check.ensures
+checked c = checked_in (row c.before) c.check.ensures
 
 returns : tie.Need-returns
 returns c =
     let k = (checked c.before.before.before).is in
     record {
-      refused = λ ne. c.no-report.ensures ∙ ap (λ (x : Answer). refusedReport x.number x.place) k;
+      refused = λ ne. c.no-report.ensures ∙ ap (λ (x : Answer). refused_report x.number x.place) k;
       done = λ e. absurd (c.before.if1.true (ap (λ (x : Answer). x.number) k ∙ e));
     }
 
 judged-requires : tie.Need-judged-requires
-unfolding noMarks
+unfolding no_marks
 judged-requires c κs =
     let i = c.before in
     let s = i.before.before.before in

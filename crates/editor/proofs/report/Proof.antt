@@ -48,9 +48,9 @@ use denote.Triple.Clauses.{ensured, lasts}
 use denote.Triple.Table.{entered, cited}
 use denote.Triple.Walked.{says, Stays, stay_none_slice, walk_of, Goes-none_slice, Walks, ends_at, walked, walk_Meets}
 use denote.Exit.{yes as as_passed}
-use Rattle.editor.specs.Rows.{noRecord, rowMasks, RowsSay}
-use Rattle.editor.specs.EditorInner.{RestZero, withRow, no_rows}
-use Rattle.editor.proofs.CopyingLaws.{copyTo, copy_more, copy-none, copy_rest, row-says}
+use Rattle.editor.specs.Rows.{no_record, row_masks, RowsSay}
+use Rattle.editor.specs.EditorInner.{RestZero, with_row, no_rows}
+use Rattle.editor.proofs.CopyingLaws.{copy_to, copy_more, copy-none, copy_rest, row-says}
 use Rattle.editor.specs.declared.Record.{Record}
 use Rattle.analysis_pairs.specs.declared.Masks.{Masks}
 use Rattle.analysis_masks.specs.declared.Report.{Report}
@@ -82,11 +82,11 @@ abbrev stayed : Stays (here.ended).signature.params (here.ended).kept
 stayed = (stay_none_slice (0 ∷ []) tt (plain (λ _. R.the_row)) as_passed, tt)
 
 -- machine values
-abbrev machR : Record → Val
-machR = LL.val R.the_type R'.the_laws
+abbrev mach_r : Record → Val
+mach_r = LL.val R.the_type R'.the_laws
 
-abbrev machK : Masks → Val
-machK = LL.val K.the_type K'.the_laws
+abbrev mach_k : Masks → Val
+mach_k = LL.val K.the_type K'.the_laws
 
 abbrev word : Ty
 word = ty_int w64
@@ -108,8 +108,8 @@ module _ {M : Type 1} {𝓤 : Ura M} (𝓛 : Logic 𝓤) (at_mem : Memory → SP
   none_said : (m : Masks) → ent 𝓤 (ensured 𝓛 none.ended (none.clauses 𝓛 at_mem run) tt tt tt m) (fact 𝓤 (m ≡ no_rows))
   none_said m = ex_e 𝓤 _ (λ ws. snd∗ 𝓤 (sem 𝓛 (lasts none.ended tt tt ws)) (fact 𝓤 (m ≡ no_rows)))
 
-  row-said : (m : Masks) (i : ℕ) (r : Record) (m' : Masks) → ent 𝓤 (ensured 𝓛 with_row.ended (with_row.clauses 𝓛 at_mem run) tt (m, (i, (r, tt))) tt m') (fact 𝓤 (m' ≡ withRow m i r))
-  row-said m i r m' = ex_e 𝓤 _ (λ ws. snd∗ 𝓤 (sem 𝓛 (lasts with_row.ended tt (m, (i, (r, tt))) ws)) (fact 𝓤 (m' ≡ withRow m i r)))
+  row-said : (m : Masks) (i : ℕ) (r : Record) (m' : Masks) → ent 𝓤 (ensured 𝓛 with_row.ended (with_row.clauses 𝓛 at_mem run) tt (m, (i, (r, tt))) tt m') (fact 𝓤 (m' ≡ with_row m i r))
+  row-said m i r m' = ex_e 𝓤 _ (λ ws. snd∗ 𝓤 (sem 𝓛 (lasts with_row.ended tt (m, (i, (r, tt))) ws)) (fact 𝓤 (m' ≡ with_row m i r)))
 
   report-said : (m : Masks) (r : Report) → ent 𝓤 (ensured 𝓛 analysed.ended (analysed.clauses 𝓛 at_mem run) tt (m, tt) tt r) (fact 𝓤 (RowsSay m r))
   report-said m r = ex_e 𝓤 _ (λ ws. snd∗ 𝓤 (sem 𝓛 (lasts analysed.ended tt (m, tt) ws)) (fact 𝓤 (RowsSay m r)))
@@ -132,7 +132,7 @@ module _ {M : Type 1} {𝓤 : Ura M} (𝓛 : Logic 𝓤) (at_mem : Memory → SP
   abbrev Post : Val → SProp 𝓤
   Post = (walk_of 𝓛 here.ended stayed (here.clauses 𝓛 at_mem run)).post (((κ, tt), (q, tt), tt, (s, tt), (v ∷ [], tt)), tt)
 
-  exits : (r : Report) (w : Val) → RowsSay (rowMasks rs) r → ent 𝓤 (⋆ 𝓛 (‵ ((P.the_row).own_val r (w ∷ [])) ∷ ‵ (flft κ q) ∷ ‵ Own ∷ [])) (Post w)
+  exits : (r : Report) (w : Val) → RowsSay (row_masks rs) r → ent 𝓤 (⋆ 𝓛 (‵ ((P.the_row).own_val r (w ∷ [])) ∷ ‵ (flft κ q) ∷ ‵ Own ∷ [])) (Post w)
   exits r w e =
       qed 𝓛 (‵ ((P.the_row).own_val r (w ∷ [])) ∷ ‵ (flft κ q) ∷ ‵ Own ∷ []) ∵
       suffices ! _ (ends_at 𝓛 here.ended stayed (here.clauses 𝓛 at_mem run) (((κ, tt), (q, tt), tt, (s, tt), (v ∷ [], tt)), tt) w r (tt, tt) (tt, tt)) $ says ! e $
@@ -145,17 +145,17 @@ module _ {M : Type 1} {𝓤 : Ura M} (𝓛 : Logic 𝓤) (at_mem : Memory → SP
   goes_none = qed 𝓛 (‵ ftrue ∷ ‵ ftrue ∷ []) ∵ join ! $ frame ! $ done !
 
   abbrev to_row : Masks → ℕ → Record → (WithRow 𝓛 at_mem run).Ghost
-  to_row m i r = ((tt, tt, tt, (m, (i, (r, tt))), (machK m ∷ [], (vint w64 i ∷ [], (machR r ∷ [], tt)))), tt)
+  to_row m i r = ((tt, tt, tt, (m, (i, (r, tt))), (mach_k m ∷ [], (vint w64 i ∷ [], (mach_r r ∷ [], tt)))), tt)
 
-  goes-row : (m : Masks) (i : ℕ) (r : Record) → ent 𝓤 (sem 𝓛 (owns (K.the_row ∷ usize ∷ R.the_row ∷ []) (m, (i, (r, tt))) (machK m ∷ [], (vint w64 i ∷ [], (machR r ∷ [], tt))))) ((WithRow 𝓛 at_mem run).pre (to_row m i r))
+  goes-row : (m : Masks) (i : ℕ) (r : Record) → ent 𝓤 (sem 𝓛 (owns (K.the_row ∷ usize ∷ R.the_row ∷ []) (m, (i, (r, tt))) (mach_k m ∷ [], (vint w64 i ∷ [], (mach_r r ∷ [], tt))))) ((WithRow 𝓛 at_mem run).pre (to_row m i r))
   goes-row m i r =
-      qed 𝓛 (‵ (owns (K.the_row ∷ usize ∷ R.the_row ∷ []) (m, (i, (r, tt))) (machK m ∷ [], (vint w64 i ∷ [], (machR r ∷ [], tt)))) ∷ []) ∵ nothing ! $ join ! $ frame ! $ done !
+      qed 𝓛 (‵ (owns (K.the_row ∷ usize ∷ R.the_row ∷ []) (m, (i, (r, tt))) (mach_k m ∷ [], (vint w64 i ∷ [], (mach_r r ∷ [], tt)))) ∷ []) ∵ nothing ! $ join ! $ frame ! $ done !
 
   abbrev to-analysed : Masks → (Analysed 𝓛 at_mem run).Ghost
-  to-analysed m = ((tt, tt, tt, (m, tt), (machK m ∷ [], tt)), tt)
+  to-analysed m = ((tt, tt, tt, (m, tt), (mach_k m ∷ [], tt)), tt)
 
-  goes-analysed : (m : Masks) → RestZero m → ent 𝓤 (sem 𝓛 ((K.the_row).own_val m (machK m ∷ []))) ((Analysed 𝓛 at_mem run).pre (to-analysed m))
-  goes-analysed m p = qed 𝓛 (‵ ((K.the_row).own_val m (machK m ∷ [])) ∷ []) ∵ says ! p $ nothing ! $ frame ! $ nothing ! $ move ! (1 ∷ 0 ∷ []) $ fjoin ! $ done !
+  goes-analysed : (m : Masks) → RestZero m → ent 𝓤 (sem 𝓛 ((K.the_row).own_val m (mach_k m ∷ []))) ((Analysed 𝓛 at_mem run).pre (to-analysed m))
+  goes-analysed m p = qed 𝓛 (‵ ((K.the_row).own_val m (mach_k m ∷ [])) ∷ []) ∵ says ! p $ nothing ! $ frame ! $ nothing ! $ move ! (1 ∷ 0 ∷ []) $ fjoin ! $ done !
 
   module _ (𝓣 : Tables 𝓤 H) (known-none : Triple 𝓤 (𝓣.C #editor·none) (None 𝓛 at_mem run)) (known-row : Triple 𝓤 (𝓣.C #editor·with-row) (WithRow 𝓛 at_mem run)) (known-end : Triple 𝓤 (𝓣.C #editor·analysed) (Analysed 𝓛 at_mem run)) (g : Room R.the_row n) where
     abbrev C : Calls 𝓤 H
@@ -170,12 +170,12 @@ module _ {M : Type 1} {𝓤 : Ura M} (𝓛 : Logic 𝓤) (at_mem : Memory → SP
 
       -- the masks m hold the first i rows
       abbrev Holds : ℕ → Masks → List (Item 𝓤)
-      Holds i m = ‵ ((K.the_row).own_val m (machK m ∷ [])) ∷ ‵ (fat full_share K'.mir l₂ 0 (machK m)) ∷ ‵ (fat full_share word l₃ 0 (vint w64 i))
+      Holds i m = ‵ ((K.the_row).own_val m (mach_k m ∷ [])) ∷ ‵ (fat full_share K'.mir l₂ 0 (mach_k m)) ∷ ‵ (fat full_share word l₃ 0 (vint w64 i))
           ∷ ‵ (froom word l₄ 0) ∷ ‵ (froom ty_bool l₅ 0) ∷ ‵ (froom ty_ptr l₆ 0) ∷ ‵ (froom R'.mir l₇ 0) ∷ ‵ (fat full_share slice l₁ 0 v) ∷ ‵ (froom P'.mir l₀ 0) ∷ ‵ (flft κ q) ∷ ‵ Own
           ∷ ‵ (fdies P'.mir l₀) ∷ ‵ (fdies slice l₁) ∷ ‵ (fdies K'.mir l₂) ∷ ‵ (fdies word l₃) ∷ ‵ (fdies word l₄) ∷ ‵ (fdies ty_bool l₅) ∷ ‵ (fdies ty_ptr l₆) ∷ ‵ (fdies R'.mir l₇) ∷ []
 
       abbrev At : ℕ → List (Item 𝓤)
-      At i = Holds i (copyTo rs i)
+      At i = Holds i (copy_to rs i)
 
       -- t rows are left
       abbrev Inv : ℕ → SProp 𝓤
@@ -188,7 +188,7 @@ module _ {M : Type 1} {𝓤 : Ura M} (𝓛 : Logic 𝓤) (at_mem : Memory → SP
       Left = after_block 𝓤 H (after_seq 𝓤 H (Wp 𝓤 H C Λ En parts.t-4 (at_return 𝓤 H En Post)) (at_return 𝓤 H En Post))
 
       abbrev row : ℕ → Record
-      row i = get_or rs i noRecord
+      row i = get_or rs i no_record
 
       -- a turn that copies one row
       more : (i : ℕ) (X : SProp 𝓤) → i < n → ent 𝓤 (⋆ 𝓛 (At (i + 1))) X → ent 𝓤 (⋆ 𝓛 (At i)) (Wp 𝓤 H C Λ En parts.turn-1 (after_turn 𝓤 H X Left))
@@ -205,26 +205,26 @@ module _ {M : Type 1} {𝓤 : Ura M} (𝓛 : Logic 𝓤) (at_mem : Memory → SP
           -- the slice is looked into, at a copy of the reference
           move ! (10 ∷ []) $ use1 𝓛 (‵ Own ⊛ ‵ Own) ((shr_slice_copy 𝓛 (named 0) κ R.the_row).twice s (v ∷ [])) $ split ! $ fsplit ! $ drop ! $ fsplit ! $ drop ! $ move ! (0 ∷ 11 ∷ []) $
           looks_slice ! tt R.the_row (Is R.the_row) (shows 𝓛 R.the_row) (LL.vals R.the_type R'.the_laws) (LL.tells R.the_type R'.the_laws) (LL.copy R.the_type R'.the_copy 𝓛) rs b o (λ q'.
-          elem_out ! R.the_row (Is R.the_row) (shows 𝓛 R.the_row) (LL.vals R.the_type R'.the_laws) (LL.tells R.the_type R'.the_laws) q' rs i noRecord b o small (λ gr.
+          elem_out ! R.the_row (Is R.the_row) (shows 𝓛 R.the_row) (LL.vals R.the_type R'.the_laws) (LL.tells R.the_type R'.the_laws) q' rs i no_record b o small (λ gr.
           -- [row i; what it owns; the others; what shuts; the fractured borrow; the reference; the masks; _2; _3; _4; _5; _6; room for _7; _1; room for _0; …]
           assigns ! (of_opd ! (load ! (from ! (hop ! (look ! 11 refl) (stop !))) (look_raw ! 0 refl))) (from ! (stop !)) (init ! 12 refl ((LL.lawful R.the_type R'.the_laws 𝓛).typed (row i) _ gr).0) $
-          elem_back ! R.the_row q' rs i noRecord (machR (row i) ∷ []) b o small $ shuts_slice ! tt R.the_row q' rs b o $ move ! (1 ∷ []) $ drop ! $
+          elem_back ! R.the_row q' rs i no_record (mach_r (row i) ∷ []) b o small $ shuts_slice ! tt R.the_row q' rs b o $ move ! (1 ∷ []) $ drop ! $
           -- [the token; the reference; the masks; _2; _3; _4; _5; _6; _7; _1; room for _0; …]
-          move ! (2 ∷ []) $ peeks ! K.the_row (Is K.the_row) (shows 𝓛 K.the_row) (copyTo rs i) (machK (copyTo rs i) ∷ []) (λ gk. drop ! $
+          move ! (2 ∷ []) $ peeks ! K.the_row (Is K.the_row) (shows 𝓛 K.the_row) (copy_to rs i) (mach_k (copy_to rs i) ∷ []) (λ gk. drop ! $
           nothing ! $ owned ! R.the_row (Is R.the_row) (LL.makes R.the_type R'.the_plain 𝓛) (row i) _ gr $ fjoin ! $ owned ! usize (Is usize) (uint_Makes 𝓛 w64) i _ (refl, below_word) $ fjoin ! $
-          owned ! K.the_row (Is K.the_row) (LL.makes K.the_type K'.the_plain 𝓛) (copyTo rs i) _ gk $ fjoin ! $
-          use1 𝓛 (raw ((WithRow 𝓛 at_mem run).pre (to_row (copyTo rs i) i (row i)))) (goes-row (copyTo rs i) i (row i)) $
+          owned ! K.the_row (Is K.the_row) (LL.makes K.the_type K'.the_plain 𝓛) (copy_to rs i) _ gk $ fjoin ! $
+          use1 𝓛 (raw ((WithRow 𝓛 at_mem run).pre (to_row (copy_to rs i) i (row i)))) (goes-row (copy_to rs i) i (row i)) $
           -- [what the call asks; the token; the reference; _2; _3; _4; _5; _6; _7; _1; room for _0; …]
-          calls_at ! (fm_of 𝓤 H 𝓛.laws 𝓣) (WithRow 𝓛 at_mem run) known-row (to_row (copyTo rs i) i (row i)) (and_then ! (load ! (from ! (stop !)) (look ! 3 refl)) (and_then ! (load ! (from ! (stop !)) (look ! 4 refl)) (and_then ! (load ! (from ! (stop !)) (look ! 8 refl)) (no_more !)))) (λ w.
-          use1 𝓛 (later (some (λ (m : Masks). (‵ ftrue ⊛ ‵ ((K.the_row).own_val m (w ∷ []))) ⊛ raw (ensured 𝓛 with_row.ended (with_row.clauses 𝓛 at_mem run) tt (copyTo rs i, (i, (row i, tt))) tt m)))) (id⊢ 𝓤 _) $ await ! tt $ pick ! (λ m.
-          split ! $ move ! (1 ∷ []) $ use1 𝓛 (raw (fact 𝓤 (m ≡ withRow (copyTo rs i) i (row i)))) (row-said 𝓛 at_mem run (copyTo rs i) i (row i) m) $ heard ! (m ≡ withRow (copyTo rs i) i (row i)) (λ e. split ! $ drop ! $
+          calls_at ! (fm_of 𝓤 H 𝓛.laws 𝓣) (WithRow 𝓛 at_mem run) known-row (to_row (copy_to rs i) i (row i)) (and_then ! (load ! (from ! (stop !)) (look ! 3 refl)) (and_then ! (load ! (from ! (stop !)) (look ! 4 refl)) (and_then ! (load ! (from ! (stop !)) (look ! 8 refl)) (no_more !)))) (λ w.
+          use1 𝓛 (later (some (λ (m : Masks). (‵ ftrue ⊛ ‵ ((K.the_row).own_val m (w ∷ []))) ⊛ raw (ensured 𝓛 with_row.ended (with_row.clauses 𝓛 at_mem run) tt (copy_to rs i, (i, (row i, tt))) tt m)))) (id⊢ 𝓤 _) $ await ! tt $ pick ! (λ m.
+          split ! $ move ! (1 ∷ []) $ use1 𝓛 (raw (fact 𝓤 (m ≡ with_row (copy_to rs i) i (row i)))) (row-said 𝓛 at_mem run (copy_to rs i) i (row i) m) $ heard ! (m ≡ with_row (copy_to rs i) i (row i)) (λ e. split ! $ drop ! $
           peeks ! K.the_row (Is K.the_row) (shows 𝓛 K.the_row) m (w ∷ []) (λ is.
           land ! (from ! (stop !)) (store ! 3 refl ((LL.lawful K.the_type K'.the_laws 𝓛).typed m _ is).0) $
           rewrite ! 3 (λ (u : Val). ‵ (fat full_share K'.mir l₂ 0 u)) (ap only (LL.tells K.the_type K'.the_laws m (w ∷ []) is)) refl $
           rewrite ! 0 (λ (us : List Val). ‵ ((K.the_row).own_val m us)) (LL.tells K.the_type K'.the_laws m (w ∷ []) is) refl $
           assigns_last ! (bin ! (load ! (from ! (stop !)) (look ! 4 refl)) (lit ! tt) (record { fits = next_fits })) (from ! (stop !)) (store ! 4 refl (tt, record { fits = next_fits })) $
           forget ! 5 refl $ forget ! 6 refl $ forget ! 7 refl $ forget ! 8 refl $
-          rewrite ! 0 (λ (z : Masks). ‵ ((K.the_row).own_val z (machK z ∷ []))) (e ∙ copy_more rs i) refl $ rewrite ! 3 (λ (z : Masks). ‵ (fat full_share K'.mir l₂ 0 (machK z))) (e ∙ copy_more rs i) refl $
+          rewrite ! 0 (λ (z : Masks). ‵ ((K.the_row).own_val z (mach_k z ∷ []))) (e ∙ copy_more rs i) refl $ rewrite ! 3 (λ (z : Masks). ‵ (fat full_share K'.mir l₂ 0 (mach_k z))) (e ∙ copy_more rs i) refl $
           keep ! (0 ∷ 3 ∷ 4 ∷ 5 ∷ 6 ∷ 7 ∷ 8 ∷ 9 ∷ 10 ∷ 1 ∷ 2 ∷ 11 ∷ 12 ∷ 13 ∷ 14 ∷ 15 ∷ 16 ∷ 17 ∷ 18 ∷ []) $ by ! k)))))))
         where
           below_word : i < 2 ^ 64
@@ -246,10 +246,10 @@ module _ {M : Type 1} {𝓤 : Ura M} (𝓛 : Logic 𝓤) (at_mem : Memory → SP
           rewrite ! 4 (λ (t : Bool). ‵ (fat full_share ty_bool l₅ 0 (vbool t))) (le-ltb n n (omega arith)) refl $
           leaves_loop ! (load ! (from ! (stop !)) (look ! 4 refl)) $ exec ! C Λ En parts.t-4 (at_ret En Post) $
           -- [the masks; _2; _3; _4; _5; room for _6; room for _7; _1; room for _0; the token; the reference; …]
-          use1 𝓛 (raw ((Analysed 𝓛 at_mem run).pre (to-analysed (copyTo rs n)))) (goes-analysed (copyTo rs n) (copy_rest rs n)) $
-          calls_at ! (fm_of 𝓤 H 𝓛.laws 𝓣) (Analysed 𝓛 at_mem run) known-end (to-analysed (copyTo rs n)) (and_then ! (load ! (from ! (stop !)) (look ! 1 refl)) (no_more !)) (λ w.
-          use1 𝓛 (later (some (λ (r : Report). (‵ ftrue ⊛ ‵ ((P.the_row).own_val r (w ∷ []))) ⊛ raw (ensured 𝓛 analysed.ended (analysed.clauses 𝓛 at_mem run) tt (copyTo rs n, tt) tt r)))) (id⊢ 𝓤 _) $ await ! tt $ pick ! (λ r.
-          split ! $ move ! (1 ∷ []) $ use1 𝓛 (raw (fact 𝓤 (RowsSay (copyTo rs n) r))) (report-said 𝓛 at_mem run (copyTo rs n) r) $ heard ! (RowsSay (copyTo rs n) r) (λ e. split ! $ drop ! $
+          use1 𝓛 (raw ((Analysed 𝓛 at_mem run).pre (to-analysed (copy_to rs n)))) (goes-analysed (copy_to rs n) (copy_rest rs n)) $
+          calls_at ! (fm_of 𝓤 H 𝓛.laws 𝓣) (Analysed 𝓛 at_mem run) known-end (to-analysed (copy_to rs n)) (and_then ! (load ! (from ! (stop !)) (look ! 1 refl)) (no_more !)) (λ w.
+          use1 𝓛 (later (some (λ (r : Report). (‵ ftrue ⊛ ‵ ((P.the_row).own_val r (w ∷ []))) ⊛ raw (ensured 𝓛 analysed.ended (analysed.clauses 𝓛 at_mem run) tt (copy_to rs n, tt) tt r)))) (id⊢ 𝓤 _) $ await ! tt $ pick ! (λ r.
+          split ! $ move ! (1 ∷ []) $ use1 𝓛 (raw (fact 𝓤 (RowsSay (copy_to rs n) r))) (report-said 𝓛 at_mem run (copy_to rs n) r) $ heard ! (RowsSay (copy_to rs n) r) (λ e. split ! $ drop ! $
           peeks ! P.the_row (Is P.the_row) (shows 𝓛 P.the_row) r (w ∷ []) (λ is.
           land ! (from ! (stop !)) (init ! 8 refl ((LL.lawful P.the_type P'.the_laws 𝓛).typed r _ is).0) $
           returns ! (look ! 8 refl) $ forget ! 1 refl $ forget ! 2 refl $ forget ! 3 refl $ forget ! 4 refl $ forget ! 7 refl $ forget ! 8 refl $
@@ -276,7 +276,7 @@ module _ {M : Type 1} {𝓤 : Ura M} (𝓛 : Logic 𝓤) (at_mem : Memory → SP
       loops = loop_rule 𝓤 H 𝓛.laws 𝓣 ◌<◌ lt-wf_rel.wf En parts.turn-1 Left Inv (λ t. turn_at t (dec_lt (n - t) n)) n
 
       -- the loop, from its first turn
-      looped : (m : Masks) → m ≡ copyTo rs 0 → ent 𝓤 (⋆ 𝓛 (Holds 0 m)) (Wp 𝓤 H C Λ En parts.t-3 (at_return 𝓤 H En Post))
+      looped : (m : Masks) → m ≡ copy_to rs 0 → ent 𝓤 (⋆ 𝓛 (Holds 0 m)) (Wp 𝓤 H C Λ En parts.t-3 (at_return 𝓤 H En Post))
       looped m e =
           subst (λ (z : Masks). ent 𝓤 (⋆ 𝓛 (Holds 0 z)) (Wp 𝓤 H C Λ En parts.t-3 (at_return 𝓤 H En Post))) (sym e)
           (subst (λ (j : ℕ). ent 𝓤 (⋆ 𝓛 (At j)) (Wp 𝓤 H C Λ En parts.t-3 (at_return 𝓤 H En Post))) none_left loops)
@@ -286,11 +286,11 @@ module _ {M : Type 1} {𝓤 : Ura M} (𝓛 : Logic 𝓤) (at_mem : Memory → SP
 
       -- room for i, before it is set
       abbrev Starts : Masks → List (Item 𝓤)
-      Starts m = ‵ ((K.the_row).own_val m (machK m ∷ [])) ∷ ‵ (fat full_share K'.mir l₂ 0 (machK m)) ∷ ‵ (froom word l₃ 0)
+      Starts m = ‵ ((K.the_row).own_val m (mach_k m ∷ [])) ∷ ‵ (fat full_share K'.mir l₂ 0 (mach_k m)) ∷ ‵ (froom word l₃ 0)
           ∷ ‵ (froom word l₄ 0) ∷ ‵ (froom ty_bool l₅ 0) ∷ ‵ (froom ty_ptr l₆ 0) ∷ ‵ (froom R'.mir l₇ 0) ∷ ‵ (fat full_share slice l₁ 0 v) ∷ ‵ (froom P'.mir l₀ 0) ∷ ‵ (flft κ q) ∷ ‵ Own
           ∷ ‵ (fdies P'.mir l₀) ∷ ‵ (fdies slice l₁) ∷ ‵ (fdies K'.mir l₂) ∷ ‵ (fdies word l₃) ∷ ‵ (fdies word l₄) ∷ ‵ (fdies ty_bool l₅) ∷ ‵ (fdies ty_ptr l₆) ∷ ‵ (fdies R'.mir l₇) ∷ []
 
-      begins : (m : Masks) → m ≡ copyTo rs 0 → ent 𝓤 (⋆ 𝓛 (Starts m)) (Wp 𝓤 H C Λ En parts.t-2 (at_return 𝓤 H En Post))
+      begins : (m : Masks) → m ≡ copy_to rs 0 → ent 𝓤 (⋆ 𝓛 (Starts m)) (Wp 𝓤 H C Λ En parts.t-2 (at_return 𝓤 H En Post))
       begins m e = qed 𝓛 (Starts m) ∵ exec ! C Λ En parts.t-2 (at_ret En Post) $ assigns ! (of_opd ! (lit ! tt)) (from ! (stop !)) (init ! 2 refl (tt, record { fits = lit< tt })) $ by ! (looped m e)
 
       -- the locals' rooms, as they stand when the body begins

@@ -7,40 +7,40 @@ use lib.Dec.{ltb}
 use borrow.Author.Rules.{rules}
 use borrow.Author.Tests.{lt-ltb, le-ltb}
 use Rattle.analysis_pairs.specs.declared.Masks.{Masks}
-use Rattle.editor_check.specs.RowNumbers.{firstBeyond, checkRows}
-use Rattle.editor_check.specs.EditorCheckInner.{onlyPrecedes}
+use Rattle.editor_check.specs.RowNumbers.{first_beyond, check_rows}
+use Rattle.editor_check.specs.EditorCheckInner.{only_precedes}
 use Rattle.editor_check.proofs.check.Statement.{statement}
 use Rattle.editor_check.proofs.check.Tie as tie
 
 returns : tie.Need-returns
-unfolding checkRows
+unfolding check_rows
 returns c = record { is = rw (lt-ltb 32 _ c.if1.true); named = λ e. absurd (omega arith) }
 
 -- the row that is lent
 abbrev row : tie.Start → Masks
-row s = onlyPrecedes s.args.n s.args.precedes.now
+row s = only_precedes s.args.n s.args.precedes.now
 
 -- the records are not too many
 few : (c : tie.Else1) → ltb 32 c.before.args.n ≡ false
 few c = le-ltb 32 c.before.args.n c.if1.false
 
 returns-2 : tie.Need-returns-2
-unfolding checkRows
+unfolding check_rows
 returns-2 c =
     let f = c.before in
-    let e : f.first-beyond.result ≡ firstBeyond (row f.before.before) = f.first-beyond.ensures.is in
+    let e : f.first-beyond.result ≡ first_beyond (row f.before.before) = f.first-beyond.ensures.is in
     record {
       is = rw (few f.before, sym e, lt-ltb _ _ c.if2.true);
       named = λ z. absurd (omega arith);
     }
 
 -- no record is beyond the row
-inside : (c : tie.Else2) → ltb (firstBeyond (row c.before.before.before)) c.before.before.before.args.n ≡ false
+inside : (c : tie.Else2) → ltb (first_beyond (row c.before.before.before)) c.before.before.before.args.n ≡ false
 inside c =
     ap (λ (x : ℕ). ltb x c.before.before.before.args.n) (sym c.before.first-beyond.ensures.is) ∙ le-ltb _ _ c.if2.false
 
 returns-3 : tie.Need-returns-3
-unfolding checkRows
+unfolding check_rows
 returns-3 c =
     let i = c.before.before.before in
     record {
@@ -49,7 +49,7 @@ returns-3 c =
     }
 
 returns-4 : tie.Need-returns-4
-unfolding checkRows
+unfolding check_rows
 returns-4 c =
     let i = c.before.before.before in
     record {

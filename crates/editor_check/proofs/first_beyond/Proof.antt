@@ -10,7 +10,7 @@ use borrow.Author.Count.{below_more}
 use Rattle.mask.specs.Mask.{beyond}
 use Rattle.mask.proofs.MaskLaws.{not_beyond}
 use Rattle.mask.proofs.LoopsLaws.{Passed, passed_none, passed-more, passed_here, passed-all}
-use Rattle.editor_check.specs.RowNumbers.{firstBeyond}
+use Rattle.editor_check.specs.RowNumbers.{first_beyond}
 use Rattle.editor_check.proofs.first_beyond.Statement.{statement}
 use Rattle.editor_check.proofs.first_beyond.Tie as tie
 
@@ -29,7 +29,7 @@ loop-holds : tie.Need-loop-init invariant-loop decreases-loop
 loop-holds c = (search rules, c.requires, record { passed = passed_none; named = λ x l. absurd (omega (arith, l)) })
 
 returns : tie.Need-returns invariant-loop decreases-loop
-unfolding firstBeyond
+unfolding first_beyond
 returns c =
     let a = c.before.before.before.before.before.before.args in
     let at = c.before.before.before.before.before.loop in
@@ -57,7 +57,7 @@ loop-again c =
     )
 
 returns-2 : tie.Need-returns-2 invariant-loop decreases-loop
-unfolding firstBeyond
+unfolding first_beyond
 returns-2 c =
     let at = c.before.loop in
     record { is = passed-all at.invariant.2.passed (omega arith); named = λ x l. at.invariant.2.named x (omega arith) }

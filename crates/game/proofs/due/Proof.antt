@@ -9,15 +9,15 @@ use borrow.Author.Rules.{rules}
 use Rattle.mask.proofs.SearchLaws.{some_same, least-same, least-is}
 use Rattle.mask.specs.Mask.{has}
 use Rattle.mask.specs.MaskInner.{lowest}
-use Rattle.mask.proofs.MaskLaws.{has-minus}
+use Rattle.mask.proofs.MaskLaws.{has_minus}
 use Rattle.table.specs.declared.Answer.{Answer}
-use Rattle.table.specs.Table.{Table, goesBefore}
+use Rattle.table.specs.Table.{Table, goes_before}
 use Rattle.table.specs.Check.{Sound}
-use Rattle.table.specs.Memory.{tableFrom}
+use Rattle.table.specs.Memory.{table_from}
 use Rattle.table.proofs.SoundLaws.{parts}
 use Rattle.machine_spec.specs.declared.State.{State}
 use Rattle.machine_spec.specs.declared.Ran.{Ran}
-use Rattle.machine_spec.specs.State.{stateBad, Fits, waits, heldBack, eligible, lowestOf}
+use Rattle.machine_spec.specs.State.{state_bad, Fits, waits, held_back, eligible, lowest_of}
 use Rattle.machine_spec.specs.Step.{step_of}
 use Rattle.machine_spec.proofs.StepLaws.{checked-sound}
 use Rattle.machine_spec.specs.Run.{later, run_of}
@@ -28,7 +28,7 @@ use Rattle.game.proofs.due.Tie as tie
 
 -- the table that the lent bytes hold
 abbrev held_in : tie.Start → Table
-held_in c = tableFrom c.args.table.now
+held_in c = table_from c.args.table.now
 
 returns : tie.Need-returns
 returns c =
@@ -75,7 +75,7 @@ module _ (c : tie.Else3) where
       checked-sound table k.check.result k.check.ensures c.before.before.before.if2.false
 
 goes-before-requires : tie.Need-goes-before-requires
-unfolding tableFrom
+unfolding table_from
 goes-before-requires c κs =
     let e = c.count.ensures.0 in
     (search rules, e, omega (arith, e, (parts _ (sound-here c.before.before.before)).sizes.rules))
@@ -93,8 +93,8 @@ module _ (c : tie.After-lowest) where
   left_over = let behind = c.before.gather.result in bit_xor (bit_or (state past).waiting behind) behind
 
   -- the rule taken is the lowest eligible one
-  taken : c.lowest.result ≡ lowestOf (table past) (state past)
-  unfolding lowest heldBack
+  taken : c.lowest.result ≡ lowest_of (table past) (state past)
+  unfolding lowest held_back
   taken =
       let t = table past in
       let s = state past in
@@ -102,17 +102,17 @@ module _ (c : tie.After-lowest) where
       c.lowest.ensures
       ∙ least-same 32 (has left_over) (eligible t s)
       (λ r l.
-      has-minus s.waiting c.before.gather.result r
+      has_minus s.waiting c.before.gather.result r
       ∙ ap (λ (b : Bool). waits s r && not b)
       (c.before.gather.ensures r
-      ∙ some_same 32 (λ x. waits s x && has (get_or rows.result x 0) r) (λ x. waits s x && goesBefore t x r)
+      ∙ some_same 32 (λ x. waits s x && has (get_or rows.result x 0) r) (λ x. waits s x && goes_before t x r)
       (λ x k. ap (λ (b : Bool). waits s x && b) (rows.ensures x r))))
 
 cast-result : tie.Need-overflow-cast-result
 cast-result c = omega (arith, c.lowest.ensures, lowest-le (left_over c))
 
 -- a state in memory fits where it is good
-fits : (c : tie.Start) → stateBad (held_in c) c.args.s ≡ false → Fits (held_in c) c.args.s
+fits : (c : tie.Start) → state_bad (held_in c) c.args.s ≡ false → Fits (held_in c) c.args.s
 fits c good =
     let l : length c.args.s.cells ≡ 32 = search rules in
     record { long = l; waiting = search rules; faults = search rules; good = good }

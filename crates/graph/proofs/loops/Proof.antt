@@ -6,7 +6,7 @@ use native.Mathlib.Omega.{arith}
 use lib.ListN.{length, get_or, get_or-eq_default}
 use Rattle.mask.specs.Mask.{has}
 use Rattle.mask.proofs.BitsLaws.{has-zero}
-use Rattle.mask.proofs.LoopsLaws.{Picked, picked_none, picked-take, picked-skip, picked-every}
+use Rattle.mask.proofs.LoopsLaws.{Picked, picked_none, picked_take, picked_skip, picked_every}
 use borrow.Author.Rules.{rules}
 use Rattle.graph.proofs.loops.Statement.{statement}
 use Rattle.graph.proofs.loops.Tie as tie
@@ -24,13 +24,13 @@ loop-again : tie.Need-loop-preserved invariant-loop decreases-loop
 loop-again c =
     let inv = c.before.before.before.loop.invariant in
     ⊎_elim
-    (λ w. (omega arith, inv.1, rw w.2 (picked-take _ _ _ _ inv.2 (sym c.before.has.ensures ∙ w.0.taken) w.1.ensures)))
-    (λ w. (omega arith, inv.1, rw w.1 (picked-skip _ _ _ inv.2 (sym c.before.has.ensures ∙ w.0.left))))
+    (λ w. (omega arith, inv.1, rw w.2 (picked_take _ _ _ _ inv.2 (sym c.before.has.ensures ∙ w.0.taken) w.1.ensures)))
+    (λ w. (omega arith, inv.1, rw w.1 (picked_skip _ _ _ inv.2 (sym c.before.has.ensures ∙ w.0.left))))
     c.if1.branch
 
 returns : tie.Need-returns invariant-loop decreases-loop
 returns c =
-    picked-every _ _ _ c.before.loop.invariant.2
+    picked_every _ _ _ c.before.loop.invariant.2
     (λ s l. ap (λ (v : ℕ). has v s) (get_or-eq_default c.before.before.args.t1 0 {n = s} (omega arith)) ∙ has-zero s)
 
 pub loops-spec : {M : Type 1} → statement M

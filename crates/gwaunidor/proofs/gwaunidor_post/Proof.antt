@@ -2,10 +2,10 @@
 use mathlib.Core.Path.{ap, ◌∙◌}
 use lib.IntN.{ℤ}
 use mir.Facts.{to_z-of_z}
-use Rattle.table.specs.Memory.{tableFrom}
+use Rattle.table.specs.Memory.{table_from}
 use Rattle.machine_spec.specs.Step.{post_of}
-use Rattle.layout_state.specs.States.{stateFrom}
-use Rattle.gwaunidor_run.specs.RunOut.{stateOut}
+use Rattle.layout_state.specs.States.{state_from}
+use Rattle.gwaunidor_run.specs.RunOut.{state_out}
 use borrow.Author.Rules.{rules}
 use Rattle.gwaunidor.proofs.gwaunidor_post.Statement.{statement}
 use Rattle.gwaunidor.proofs.gwaunidor_post.Tie as tie
@@ -15,7 +15,7 @@ returns c =
     let b = c.before.before in
     let a = b.args in
     c.post.ensures
-    ∙ ap (λ (z : ℤ). stateOut (post_of (tableFrom a.table.now) (stateFrom a.state.now) a.cell z)) (to_z-of_z b.ranges.value)
+    ∙ ap (λ (z : ℤ). state_out (post_of (table_from a.table.now) (state_from a.state.now) a.cell z)) (to_z-of_z b.ranges.value)
 
 pub gwaunidor-post-spec : {M : Type 1} → statement M
 gwaunidor-post-spec = tie.close (tie.spec (λ c κs. search rules) returns)

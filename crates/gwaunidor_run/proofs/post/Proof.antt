@@ -2,10 +2,10 @@
 use mathlib.Core.Path.{ap, ◌∙◌}
 use lib.IntN.{ℤ}
 use mir.Facts.{to_z-of_z}
-use Rattle.table.specs.Memory.{tableFrom}
+use Rattle.table.specs.Memory.{table_from}
 use Rattle.machine_spec.specs.declared.State.{State}
 use Rattle.machine_spec.specs.Step.{post_of}
-use Rattle.gwaunidor_run.specs.RunOut.{stateOut}
+use Rattle.gwaunidor_run.specs.RunOut.{state_out}
 use borrow.Author.Rules.{rules}
 use Rattle.gwaunidor_run.proofs.post.Statement.{statement}
 use Rattle.gwaunidor_run.proofs.post.Tie as tie
@@ -16,9 +16,9 @@ returns c =
     let l = p.before in
     let b = l.before.before in
     let a = b.args in
-    let t = tableFrom a.table.now in
+    let t = table_from a.table.now in
     c.give.ensures
-    ∙ ap stateOut
+    ∙ ap state_out
     (p.post.ensures
     ∙ ap (λ (z : ℤ). post_of t l.load-state.result a.cell z) (to_z-of_z b.ranges.value)
     ∙ ap (λ (s : State). post_of t s a.cell a.value) l.load-state.ensures)

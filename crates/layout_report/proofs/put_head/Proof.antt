@@ -7,14 +7,14 @@ use lib.ListN.{length, length-append}
 use borrow.Author.Rules.{rules}
 use Rattle.bytes.specs.Put.{put}
 use Rattle.bytes.proofs.PutLaws.{put_next}
-use Rattle.bytes.specs.Bytes.{u16Bytes, u32Bytes}
-use Rattle.bytes.proofs.BytesLaws.{length-u16, length-u32}
-use Rattle.layout_report.specs.Layout.{summaryBytes}
+use Rattle.bytes.specs.Bytes.{u16_bytes, u32_bytes}
+use Rattle.bytes.proofs.BytesLaws.{length_u16, length_u32}
+use Rattle.layout_report.specs.Layout.{summary_bytes}
 use Rattle.layout_report.proofs.put_head.Statement.{statement}
 use Rattle.layout_report.proofs.put_head.Tie as tie
 
 returns : tie.Need-returns
-unfolding summaryBytes
+unfolding summary_bytes
 returns c =
     let z = c.before.before in
     let p = z.before.before.before.before in
@@ -25,18 +25,18 @@ returns c =
     let r = a.r in
     let l = a.out.now in
     let b1 = r.number ∷ r.place ∷ cond r.cleared 1 0 ∷ 0 ∷ [] in
-    let b2 = b1 ++ u32Bytes r.faulty in
-    let b3 = b2 ++ u16Bytes r.failing in
+    let b2 = b1 ++ u32_bytes r.faulty in
+    let b3 = b2 ++ u16_bytes r.failing in
     let b4 = b3 ++ (r.first ∷ r.second ∷ r.culprit ∷ r.other ∷ []) in
-    let n2 : length b2 ≡ 8 = simp length-u32 in
-    let n3 : length b3 ≡ 10 = simp (length-append, length-u32, length-u16) in
-    let n4 : length b4 ≡ 14 = simp (length-append, length-u32, length-u16) in
+    let n2 : length b2 ≡ 8 = simp length_u32 in
+    let n3 : length b3 ≡ 10 = simp (length-append, length_u32, length_u16) in
+    let n4 : length b4 ≡ 14 = simp (length-append, length_u32, length_u16) in
     let w1 : h.put_4.new.0 ≡ put l 0 b1 = rw (← h.before.flag.ensures) h.put_4.ensures in
-    let w2 = put_next l 0 b1 w1 (omega arith) 4 (omega arith) (u32Bytes r.faulty) m.put-u32.ensures in
-    let w3 = put_next l 0 b2 w2 (omega arith) 8 (omega arith) (u16Bytes r.failing) f.put-u16.ensures in
+    let w2 = put_next l 0 b1 w1 (omega arith) 4 (omega arith) (u32_bytes r.faulty) m.put-u32.ensures in
+    let w3 = put_next l 0 b2 w2 (omega arith) 8 (omega arith) (u16_bytes r.failing) f.put-u16.ensures in
     let w4 = put_next l 0 b3 w3 (omega arith) 10 (omega arith) (r.first ∷ r.second ∷ r.culprit ∷ r.other ∷ [])
     p.put-42.ensures in
-    put_next l 0 b4 w4 (omega arith) 14 (omega arith) (u16Bytes 0) z.put-u162.ensures
+    put_next l 0 b4 w4 (omega arith) 14 (omega arith) (u16_bytes 0) z.put-u162.ensures
 
 pub put-head-spec : {M : Type 1} → statement M
 put-head-spec =

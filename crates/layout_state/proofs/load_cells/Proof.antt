@@ -7,13 +7,13 @@ use mir.Facts.{to_z-of_z}
 use borrow.Author.Rules.{rules, sfits_of}
 use Rattle.rule.specs.Fill.{filled}
 use Rattle.rule.proofs.FillLaws.{filled_more}
-use Rattle.layout_state.specs.States.{cellsFrom}
-use Rattle.layout_state.proofs.StatesLaws.{cellIn}
+use Rattle.layout_state.specs.States.{cells_from}
+use Rattle.layout_state.proofs.StatesLaws.{cell_in}
 use Rattle.layout_state.proofs.load_cells.Statement.{statement}
 use Rattle.layout_state.proofs.load_cells.Tie as tie
 
 abbrev invariant-loop : tie.invariant-loop
-invariant-loop s cells₀ i₀ cells i = (i ≤ 32) × (cells ≡ filled 32 (pos 0) (cellIn s) i)
+invariant-loop s cells₀ i₀ cells i = (i ≤ 32) × (cells ≡ filled 32 (pos 0) (cell_in s) i)
 
 abbrev decreases-loop : tie.decreases-loop
 decreases-loop s cells₀ i₀ cells i = 32 - i
@@ -27,11 +27,11 @@ loop-again c =
     let s = c.before.before.before.before.args.s.now in
     let h : l.i < 32 = omega arith in (
       search rules,
-      rw (to_z-of_z (sfits_of c.i64-at.type-inv), l.invariant.1, c.i64-at.ensures) (filled_more 32 (pos 0) (cellIn s) l.i h),
+      rw (to_z-of_z (sfits_of c.i64-at.type-inv), l.invariant.1, c.i64-at.ensures) (filled_more 32 (pos 0) (cell_in s) l.i h),
     )
 
 returns : tie.Need-returns invariant-loop decreases-loop
-unfolding cellsFrom
+unfolding cells_from
 returns c =
     let l = c.before.loop in
     let e : l.i ≡ 32 = omega arith in

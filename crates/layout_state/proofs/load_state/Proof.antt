@@ -1,11 +1,11 @@
 -- The cells and the two masks, each as its callee ensures it.
 use borrow.Author.Rules.{rules}
-use Rattle.layout_state.specs.States.{stateFrom}
+use Rattle.layout_state.specs.States.{state_from}
 use Rattle.layout_state.proofs.load_state.Statement.{statement}
 use Rattle.layout_state.proofs.load_state.Tie as tie
 
 returns : tie.Need-returns
-unfolding stateFrom
+unfolding state_from
 returns c =
     let w = c.before.before in
     rw (c.u32-at2.ensures, w.u32-at.ensures, w.before.before.load_Cells.ensures)

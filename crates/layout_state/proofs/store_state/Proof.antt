@@ -5,14 +5,14 @@ use native.Mathlib.Omega.{arith}
 use lib.ListN.{length}
 use borrow.Author.Rules.{rules}
 use Rattle.bytes.proofs.PutLaws.{put_next, put_whole}
-use Rattle.bytes.specs.Bytes.{u32Bytes}
-use Rattle.layout_state.specs.States.{cellsBytes, stateBytes}
+use Rattle.bytes.specs.Bytes.{u32_bytes}
+use Rattle.layout_state.specs.States.{cells_bytes, state_bytes}
 use Rattle.layout_state.proofs.StatesLaws.{length-cells, length_front, length-state}
 use Rattle.layout_state.proofs.store_state.Statement.{statement}
 use Rattle.layout_state.proofs.store_state.Tie as tie
 
 returns : tie.Need-returns
-unfolding stateBytes
+unfolding state_bytes
 returns c =
     let w = c.before.before in
     let p = w.before.before in
@@ -20,14 +20,14 @@ returns c =
     let s = a.s in
     let old = a.out.now in
     let size : length old ≡ 264 = search rules in
-    let b1 = cellsBytes s.cells 32 in
-    let b2 = b1 ++ u32Bytes s.waiting in
+    let b1 = cells_bytes s.cells 32 in
+    let b2 = b1 ++ u32_bytes s.waiting in
     let n1 : length b1 ≡ 256 = length-cells s.cells 32 in
     let n2 : length b2 ≡ 260 = length_front s.cells s.waiting in
-    let w2 = put_next old 0 b1 p.put-cells.ensures (omega arith) 256 (omega arith) (u32Bytes s.waiting)
+    let w2 = put_next old 0 b1 p.put-cells.ensures (omega arith) 256 (omega arith) (u32_bytes s.waiting)
     w.put-u32.ensures in
-    put_next old 0 b2 w2 (omega arith) 260 (omega arith) (u32Bytes s.faults) c.put-u322.ensures
-    ∙ put_whole old (stateBytes s) (length-state s ∙ sym size)
+    put_next old 0 b2 w2 (omega arith) 260 (omega arith) (u32_bytes s.faults) c.put-u322.ensures
+    ∙ put_whole old (state_bytes s) (length-state s ∙ sym size)
 
 pub store-state-spec : {M : Type 1} → statement M
 store-state-spec =

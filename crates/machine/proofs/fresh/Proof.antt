@@ -9,9 +9,9 @@ use borrow.Author.Rules.{rules}
 use Rattle.mask.specs.First.{first_of}
 use Rattle.table.specs.Table.{Table}
 use Rattle.table.specs.Check.{Sound}
-use Rattle.table.specs.Memory.{tableFrom}
+use Rattle.table.specs.Memory.{table_from}
 use Rattle.machine_spec.specs.declared.State.{State}
-use Rattle.machine_spec.specs.State.{stateBad, still, zeros}
+use Rattle.machine_spec.specs.State.{state_bad, still, zeros}
 use Rattle.machine_spec.specs.Step.{moved, answered, fresh_of}
 use Rattle.machine_spec.proofs.StepLaws.{checked-sound, checked_refused, answered-own, answered-is}
 use Rattle.machine_step.proofs.TurnLaws.{bad-by, few-at}
@@ -20,14 +20,14 @@ use Rattle.machine.proofs.fresh.Tie as tie
 
 -- 11, where the amounts do not fit
 abbrev numbers : Table → List ℤ → List (Bool × ℕ)
-numbers t amounts = (stateBad t (still amounts), 11) ∷ []
+numbers t amounts = (state_bad t (still amounts), 11) ∷ []
 
 returns : tie.Need-returns
 unfolding fresh_of
 returns c =
     let k = c.before.before.before in
     let a = k.before.before.args in
-    let t = tableFrom a.table.now in
+    let t = table_from a.table.now in
     c.answer.ensures
     ∙ checked_refused t k.check.result k.check.ensures c.before.if1.true (numbers t a.t2)
     k.before.still.result (still a.t2)
@@ -41,8 +41,8 @@ module _ (c : tie.Else1) where
   abbrev amounts : List ℤ
   amounts = c.before.before.before.before.args.t2
 
-  sound-here : Sound (tableFrom image)
-  sound-here = checked-sound (tableFrom image) c.before.before.check.result c.before.before.check.ensures c.if1.false
+  sound-here : Sound (table_from image)
+  sound-here = checked-sound (table_from image) c.before.before.check.result c.before.before.check.ensures c.if1.false
 
 state-bad-requires : tie.Need-state-bad-requires
 state-bad-requires c κs =
@@ -51,7 +51,7 @@ state-bad-requires c κs =
 
 -- the second test, and the number that it gives
 number : (c : tie.After-state-bad) (b : Bool) → c.state-bad.result ≡ b →
-    let d = c.before.before.before.before in first_of 0 (numbers (tableFrom (image d)) (amounts d)) ≡ cond b 11 0
+    let d = c.before.before.before.before in first_of 0 (numbers (table_from (image d)) (amounts d)) ≡ cond b 11 0
 number c b e =
     let d = c.before.before.before.before in
     ap (λ (x : Bool). cond x 11 0) (sym (c.state-bad.ensures ∙ bad-by (image d) (still (amounts d))) ∙ e)
@@ -61,7 +61,7 @@ unfolding fresh_of
 returns-2 c =
     let b = c.before.before in
     let d = b.before.before.before.before in
-    let t = tableFrom (image d) in
+    let t = table_from (image d) in
     let e = number b true c.before.if2.true in
     c.answer2.ensures
     ∙ ap (moved 11 255) d.before.before.before.still.ensures
@@ -73,7 +73,7 @@ unfolding fresh_of
 returns-3 c =
     let b = c.before.before.before in
     let d = b.before.before.before.before in
-    let t = tableFrom (image d) in
+    let t = table_from (image d) in
     c.answer3.ensures
     ∙ ap (moved 0 255) c.before.still2.ensures
     ∙ sym (answered-is t (numbers t (amounts d)) zeros (still (amounts d)) (sound-here d)

@@ -1,4 +1,4 @@
--- Each return is the first of `postNumbers` whose test held; the tests before it did not.
+-- Each return is the first of `post_numbers` whose test held; the tests before it did not.
 use mathlib.Core.Path.{◌≡◌, refl, sym, ap, ap₂, ◌∙◌}
 use mathlib.Core.Bool.{Bool, ◌||◌}
 use mathlib.Core.List.{List}
@@ -6,13 +6,13 @@ use Prim.Native.Nat.{ℕ}
 use lib.Dec.{leb}
 use mir.Facts.{to_z-of_z}
 use borrow.Author.Rules.{rules}
-use Rattle.rule.specs.Numbers.{outOfRange}
+use Rattle.rule.specs.Numbers.{out_of_range}
 use Rattle.bytes.specs.Little.{byte_at}
 use Rattle.table.specs.Table.{Table}
-use Rattle.table.specs.Memory.{tableFrom}
+use Rattle.table.specs.Memory.{table_from}
 use Rattle.machine_spec.specs.declared.State.{State}
-use Rattle.machine_spec.specs.State.{stateBad}
-use Rattle.machine_spec.specs.Step.{postNumbers}
+use Rattle.machine_spec.specs.State.{state_bad}
+use Rattle.machine_spec.specs.Step.{post_numbers}
 use Rattle.machine_step.specs.MachineStepInner.{state_of}
 use Rattle.machine_step.proofs.TurnLaws.{bad-by}
 use Rattle.machine.proofs.post_number.Statement.{statement}
@@ -20,21 +20,21 @@ use Rattle.machine.proofs.post_number.Tie as tie
 
 module _ (c : tie.Start) where
   abbrev table : Table
-  table = tableFrom c.args.table.now
+  table = table_from c.args.table.now
 
   abbrev state : State
   state = state_of c.args.cells.now c.args.m
 
-cells : (s : List ℕ) → byte_at s 2 ≡ (tableFrom s).k
-unfolding tableFrom
+cells : (s : List ℕ) → byte_at s 2 ≡ (table_from s).k
+unfolding table_from
 cells s = refl
 
 -- the test of 11 is the table's
-fit : (c : tie.After-state-bad) → let b = c.before.before.before.before in c.state-bad.result ≡ stateBad (table b) (state b)
+fit : (c : tie.After-state-bad) → let b = c.before.before.before.before in c.state-bad.result ≡ state_bad (table b) (state b)
 fit c = let b = c.before.before.before.before in c.state-bad.ensures ∙ bad-by b.args.table.now (state b)
 
 returns : tie.Need-returns
-unfolding postNumbers
+unfolding post_numbers
 returns c = rw (sym (fit c.before) ∙ c.if1.true)
 
 -- past the first test the second decides
@@ -46,19 +46,19 @@ module _ (c : tie.After-out-of-range) where
   start = first.before.before.before.before.before
 
   own : (leb c.before.count.result start.args.cell || c.out_of_range.result)
-      ≡ (leb (table start).k start.args.cell || outOfRange start.args.value)
+      ≡ (leb (table start).k start.args.cell || out_of_range start.args.value)
   own =
       ap₂ (λ (k : ℕ) (b : Bool). leb k start.args.cell || b) (c.before.count.ensures.0 ∙ cells start.args.table.now)
-      (c.out_of_range.ensures ∙ ap outOfRange (to_z-of_z start.fits.value))
+      (c.out_of_range.ensures ∙ ap out_of_range (to_z-of_z start.fits.value))
 
 returns-2 : tie.Need-returns-2
-unfolding postNumbers
+unfolding post_numbers
 returns-2 c =
     let o = c.before in
     rw (sym (fit (first o).before) ∙ (first o).if1.false, sym (own o) ∙ c.if2.true)
 
 returns-3 : tie.Need-returns-3
-unfolding postNumbers
+unfolding post_numbers
 returns-3 c =
     let o = c.before in
     rw (sym (fit (first o).before) ∙ (first o).if1.false, sym (own o) ∙ c.if2.false)

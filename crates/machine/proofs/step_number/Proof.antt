@@ -1,4 +1,4 @@
--- Each return is the first of `stepNumbers` whose test held; the tests before it did not.
+-- Each return is the first of `step_numbers` whose test held; the tests before it did not.
 use mathlib.Core.Path.{◌≡◌, refl, sym, ap, ◌∙◌}
 use mathlib.Core.Bool.{Bool, true, false, ◌&&◌}
 use mathlib.Core.List.{List}
@@ -10,11 +10,11 @@ use borrow.Author.Rules.{rules}
 use Rattle.mask.proofs.SearchLaws.{some_same}
 use Rattle.mask.specs.Mask.{has}
 use Rattle.bytes.specs.Little.{byte_at}
-use Rattle.table.specs.Table.{Table, goesBefore}
-use Rattle.table.specs.Memory.{tableFrom}
+use Rattle.table.specs.Table.{Table, goes_before}
+use Rattle.table.specs.Memory.{table_from}
 use Rattle.machine_spec.specs.declared.State.{State}
-use Rattle.machine_spec.specs.State.{stateBad, waits, heldBack}
-use Rattle.machine_spec.specs.Step.{stepNumbers}
+use Rattle.machine_spec.specs.State.{state_bad, waits, held_back}
+use Rattle.machine_spec.specs.Step.{step_numbers}
 use Rattle.machine_step.specs.MachineStepInner.{state_of}
 use Rattle.machine_step.proofs.TurnLaws.{bad-by}
 use Rattle.machine.proofs.step_number.Statement.{statement}
@@ -22,25 +22,25 @@ use Rattle.machine.proofs.step_number.Tie as tie
 
 module _ (c : tie.Start) where
   abbrev table : Table
-  table = tableFrom c.args.table.now
+  table = table_from c.args.table.now
 
   abbrev state : State
   state = state_of c.args.cells.now c.args.m
 
-rules : (s : List ℕ) → (tableFrom s).n ≡ byte_at s 1
-unfolding tableFrom
+rules : (s : List ℕ) → (table_from s).n ≡ byte_at s 1
+unfolding table_from
 rules s = refl
 
 -- the test of 11 is the table's
-fit : (c : tie.After-state-bad) → let b = c.before.before.before.before in c.state-bad.result ≡ stateBad (table b) (state b)
+fit : (c : tie.After-state-bad) → let b = c.before.before.before.before in c.state-bad.result ≡ state_bad (table b) (state b)
 fit c = let b = c.before.before.before.before in c.state-bad.ensures ∙ bad-by b.args.table.now (state b)
 
 returns : tie.Need-returns
-unfolding stepNumbers
+unfolding step_numbers
 returns c = rw (sym (fit c.before) ∙ c.if1.true)
 
 -- past the first test
-fits : (c : tie.Else1) → let b = c.before.before.before.before.before in stateBad (table b) (state b) ≡ false
+fits : (c : tie.Else1) → let b = c.before.before.before.before.before in state_bad (table b) (state b) ≡ false
 fits c = sym (fit c.before) ∙ c.if1.false
 
 module _ (c : tie.After-count) where
@@ -48,7 +48,7 @@ module _ (c : tie.After-count) where
   few = omega (arith, c.count.ensures.0, c.before.before.before.before.before.before.before.requires.few-rules)
 
 returns-2 : tie.Need-returns-2
-unfolding stepNumbers
+unfolding step_numbers
 returns-2 c =
     let d = c.before.before.before in
     let b = d.before.before.before.before.before in
@@ -67,7 +67,7 @@ has-requires : tie.Need-has-requires
 has-requires c κs = omega (arith, few c.before, c.if2.false)
 
 returns-3 : tie.Need-returns-3
-unfolding stepNumbers
+unfolding step_numbers
 returns-3 c =
     let d = c.before.before in
     let e = d.before.before.before in
@@ -98,29 +98,29 @@ module _ (c : tie.After-has2) where
   abbrev start : tie.Start
   start = first.before.before.before.before.before
 
-  holder : c.has2.result ≡ heldBack (table start) (state start) start.args.r
-  unfolding heldBack
+  holder : c.has2.result ≡ held_back (table start) (state start) start.args.r
+  unfolding held_back
   holder =
       let t = table start in
       let s = state start in
       let r = start.args.r in
       let g = c.before.before.before in
       c.has2.ensures ∙ c.before.gather.ensures r
-      ∙ some_same 32 (λ x. waits s x && has (get_or g.goes_before.result x 0) r) (λ x. waits s x && goesBefore t x r)
+      ∙ some_same 32 (λ x. waits s x && has (get_or g.goes_before.result x 0) r) (λ x. waits s x && goes_before t x r)
       (λ x l. ap (λ (b : Bool). waits s x && b) (g.goes_before.ensures x r))
 
   awake : waits (state start) start.args.r ≡ true
   awake = sym third.before.has.ensures ∙ not-false third.before.has.result third.if3.left
 
 returns-4 : tie.Need-returns-4
-unfolding stepNumbers
+unfolding step_numbers
 returns-4 c =
     let h = c.before in
     let b = start h in
     rw (fits (first h), lt-leb (table b).n b.args.r (below (second h)), awake h, sym (holder h) ∙ c.if4.true)
 
 returns-5 : tie.Need-returns-5
-unfolding stepNumbers
+unfolding step_numbers
 returns-5 c =
     let h = c.before in
     let b = start h in

@@ -9,27 +9,27 @@ use borrow.Author.Rules.{rules}
 use Rattle.mask.proofs.SearchLaws.{some_same, least-same}
 use Rattle.mask.specs.Mask.{has}
 use Rattle.mask.specs.MaskInner.{lowest}
-use Rattle.table.specs.Table.{goesBefore}
-use Rattle.table.specs.Memory.{tableFrom}
-use Rattle.table.specs.TableInner.{ruleFrom}
+use Rattle.table.specs.Table.{goes_before}
+use Rattle.table.specs.Memory.{table_from}
+use Rattle.table.specs.TableInner.{rule_from}
 use Rattle.machine_spec.specs.declared.State.{State}
-use Rattle.machine_spec.specs.State.{Fits, waits, heldBack, eligible, lowestOf}
+use Rattle.machine_spec.specs.State.{Fits, waits, held_back, eligible, lowest_of}
 use Rattle.machine_spec.proofs.StateLaws.{fits-range}
 use Rattle.machine_spec.specs.Run.{ran}
 use Rattle.machine_spec.specs.Step.{effect}
 use Rattle.machine_spec.proofs.EffectLaws.{effect-fits}
 use Rattle.machine_spec.proofs.RunLaws.{next, StandsAt, stands-start, stands-turn, stands-done, stands-spent}
 use Rattle.machine_spec.proofs.EligibleLaws.{lowest-below}
-use Rattle.machine_step.specs.MachineStepInner.{state_of, effectBy}
-use Rattle.machine_step.proofs.TurnLaws.{slot_at, below-32, turn_is}
+use Rattle.machine_step.specs.MachineStepInner.{state_of, effect_by}
+use Rattle.machine_step.proofs.TurnLaws.{slot_at, below_32, turn_is}
 use Rattle.machine_run.specs.MachineRunInner.{Lent}
 use Rattle.machine_run.proofs.runs.Statement.{statement}
 use Rattle.machine_run.proofs.runs.Tie as tie
 
 abbrev invariant-loop : tie.invariant-loop
 invariant-loop table row rows budget cells₀ m₀ steps₀ cells m steps =
-    (steps ≤ budget) × Fits (tableFrom table) (state_of cells m)
-    × StandsAt (tableFrom table) (state_of cells₀ m₀) budget (state_of cells m) steps
+    (steps ≤ budget) × Fits (table_from table) (state_of cells m)
+    × StandsAt (table_from table) (state_of cells₀ m₀) budget (state_of cells m) steps
 
 abbrev decreases-loop : tie.decreases-loop
 decreases-loop table row rows budget cells₀ m₀ steps₀ cells m steps = budget - steps
@@ -37,7 +37,7 @@ decreases-loop table row rows budget cells₀ m₀ steps₀ cells m steps = budg
 loop-holds : tie.Need-loop-init invariant-loop decreases-loop
 loop-holds c =
     let s = c.before.before in
-    (search rules, s.requires.1, stands-start (tableFrom s.args.table.now) s.args.s s.args.budget)
+    (search rules, s.requires.1, stands-start (table_from s.args.table.now) s.args.s s.args.budget)
 
 returns : tie.Need-returns invariant-loop decreases-loop
 returns c =
@@ -46,7 +46,7 @@ returns c =
     let a = i.before.before.before.before.before.args in
     c.ran.ensures
     ∙ ap (λ (s : State). ran 15 255 s l.steps) c.before.joined.ensures
-    ∙ sym (stands-spent (tableFrom a.table.now) a.s a.budget (state_of l.cells l.m) l.steps i.if1.true
+    ∙ sym (stands-spent (table_from a.table.now) a.s a.budget (state_of l.cells l.m) l.steps i.if1.true
     c.before.before.if2.true l.invariant.2)
 
 -- the rule taken is the lowest eligible one, and one of the table's
@@ -63,34 +63,34 @@ module _ (c : tie.After-lowest invariant-loop decreases-loop) where
   abbrev state : State
   state = let l = c.before.before.before.before.before.loop in state_of l.cells l.m
 
-  fits : Fits (tableFrom image) state
+  fits : Fits (table_from image) state
   fits = c.before.before.before.before.before.loop.invariant.1
 
-  taken : c.lowest.result ≡ lowestOf (tableFrom image) state
-  unfolding lowest heldBack
+  taken : c.lowest.result ≡ lowest_of (table_from image) state
+  unfolding lowest held_back
   taken =
       c.lowest.ensures
-      ∙ least-same 32 (has c.before.eligible.result) (eligible (tableFrom image) state)
+      ∙ least-same 32 (has c.before.eligible.result) (eligible (table_from image) state)
       (λ r l.
       c.before.eligible.ensures r
       ∙ ap (λ (b : Bool). waits state r && not b)
       (some_same 32 (λ x. waits state x && has (get_or start.args.rows.now x 0) r)
-      (λ x. waits state x && goesBefore (tableFrom image) x r)
+      (λ x. waits state x && goes_before (table_from image) x r)
       (λ x k. ap (λ (b : Bool). waits state x && b) (lent.before x r))))
 
-  low : lowestOf (tableFrom image) state < (tableFrom image).n
-  low = lowest-below (tableFrom image) state lent.sound fits c.before.before.before.if1.true
+  low : lowest_of (table_from image) state < (table_from image).n
+  low = lowest-below (table_from image) state lent.sound fits c.before.before.before.if1.true
 
-  below : c.lowest.result < (tableFrom image).n
-  below = subst (λ (x : ℕ). x < (tableFrom image).n) (sym taken) low
+  below : c.lowest.result < (table_from image).n
+  below = subst (λ (x : ℕ). x < (table_from image).n) (sym taken) low
 
 turn-requires : tie.Need-turn-requires invariant-loop decreases-loop
 turn-requires c κs =
     let d = c.before in
     let h = lent d in (
       slot_at (image d) h.long h.sound d.lowest.result (below d),
-      fits-range (tableFrom (image d)) (state d) (fits d),
-      below-32 (image d) h.long h.sound d.lowest.result (below d),
+      fits-range (table_from (image d)) (state d) (fits d),
+      below_32 (image d) h.long h.sound d.lowest.result (below d),
     )
 
 loop-again : tie.Need-loop-preserved invariant-loop decreases-loop
@@ -98,16 +98,16 @@ loop-again c =
     let d = c.before.before in
     let l = d.before.before.before.before.before.loop in
     let a = (start d).args in
-    let t = tableFrom (image d) in
+    let t = table_from (image d) in
     let h = lent d in
     let r = d.lowest.result in
     let e : state_of c.turn.new.1.1.1.0 c.turn.result ≡ next t (state d) =
     c.turn.ensures
-    ∙ ap (λ (row : List ℕ). effectBy (ruleFrom (image d) r) row (state d) r) h.watches
+    ∙ ap (λ (row : List ℕ). effect_by (rule_from (image d) r) row (state d) r) h.watches
     ∙ turn_is (image d) h.long h.sound r (below d) (state d)
     ∙ ap (effect t (state d)) (taken d) in (
       search rules,
-      subst (Fits t) (sym e) (effect-fits t (state d) (lowestOf t (state d)) h.sound (fits d) (low d)),
+      subst (Fits t) (sym e) (effect-fits t (state d) (lowest_of t (state d)) h.sound (fits d) (low d)),
       subst (λ (s : State). StandsAt t a.s a.budget s (l.steps + 1)) (sym e)
           (stands-turn t a.s a.budget (state d) l.steps (omega arith) d.before.before.before.if1.true l.invariant.2),
     )
@@ -119,7 +119,7 @@ returns-2 c =
     let a = i.before.before.before.before.before.args in
     c.ran2.ensures
     ∙ ap (λ (s : State). ran 0 255 s l.steps) c.before.joined2.ensures
-    ∙ sym (stands-done (tableFrom a.table.now) a.s a.budget (state_of l.cells l.m) l.steps i.if1.false
+    ∙ sym (stands-done (table_from a.table.now) a.s a.budget (state_of l.cells l.m) l.steps i.if1.false
     l.invariant.2)
 
 pub runs-spec : {M : Type 1} → statement M

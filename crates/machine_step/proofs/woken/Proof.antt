@@ -5,7 +5,7 @@ use native.Mathlib.Omega.{arith}
 use lib.ListN.{get_or}
 use borrow.Author.Rules.{rules}
 use Rattle.mask.specs.Mask.{has, meet}
-use Rattle.mask.proofs.LoopsLaws.{maskOf-unique}
+use Rattle.mask.proofs.LoopsLaws.{mask_of-unique}
 use Rattle.machine_step.proofs.woken.Statement.{statement}
 use Rattle.machine_step.proofs.woken.Tie as tie
 
@@ -13,7 +13,7 @@ returns : tie.Need-returns
 returns c =
     let a = c.before.before.args in
     let row = a.row.now in
-    maskOf-unique 32 (λ x. has a.waiting x || meet (get_or row x 0) a.m) c.union.result (omega arith)
+    mask_of-unique 32 (λ x. has a.waiting x || meet (get_or row x 0) a.m) c.union.result (omega arith)
     (λ x l.
     c.union.ensures x
     ∙ ap (λ (b : Bool). has a.waiting x || b) (c.before.touching.ensures x l))

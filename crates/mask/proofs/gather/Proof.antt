@@ -7,7 +7,7 @@ use native.Mathlib.Omega.{arith}
 use Rattle.mask.specs.Mask.{has}
 use Rattle.mask.specs.MaskInner.{lowest}
 use Rattle.mask.proofs.MaskLaws.{lowest-has, fewer}
-use Rattle.mask.proofs.LoopsLaws.{Gathering, gathering-start, gathering-turn, gathering-end}
+use Rattle.mask.proofs.LoopsLaws.{Gathering, gathering_start, gathering_turn, gathering_end}
 use borrow.Author.Rules.{rules}
 use Rattle.mask.proofs.gather.Statement.{statement}
 use Rattle.mask.proofs.gather.Tie as tie
@@ -19,7 +19,7 @@ abbrev decreases-loop : tie.decreases-loop
 decreases-loop rows m left₀ a₀ left a = left
 
 loop-holds : tie.Need-loop-init invariant-loop decreases-loop
-loop-holds c = (search rules, gathering-start c.args.rows.now _)
+loop-holds c = (search rules, gathering_start c.args.rows.now _)
 
 -- the lowest member is one
 low : (c : tie.After-lowest invariant-loop decreases-loop)
@@ -43,13 +43,13 @@ loop-less c =
 loop-again : tie.Need-loop-preserved invariant-loop decreases-loop
 loop-again c = (
   search rules,
-  gathering-turn c.before.before.before.before.before.args.rows.now _ _ _ _ _ (low c.before.before).0
+  gathering_turn c.before.before.before.before.before.args.rows.now _ _ _ _ _ (low c.before.before).0
       (low c.before.before).1 c.without.ensures c.before.before.before.before.loop.invariant.1,
 )
 
 returns : tie.Need-returns invariant-loop decreases-loop
 returns c =
-    gathering-end c.before.before.args.rows.now _ _
+    gathering_end c.before.before.args.rows.now _ _
     (subst (λ (k : ℕ). Gathering c.before.before.args.rows.now c.before.before.args.m k c.before.loop.a)
     c.loop-test.false c.before.loop.invariant.1)
 

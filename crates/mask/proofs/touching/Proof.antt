@@ -5,7 +5,7 @@ use Prim.Native.Nat.{◌≤◌, ◌-◌}
 use native.Mathlib.Omega.{arith}
 use lib.ListN.{get_or}
 use Rattle.mask.specs.Mask.{meet}
-use Rattle.mask.proofs.LoopsLaws.{Picked, picked_none, picked-skip, picked-take, picked_all}
+use Rattle.mask.proofs.LoopsLaws.{Picked, picked_none, picked_skip, picked_take, picked_all}
 use borrow.Author.Rules.{rules}
 use Rattle.mask.proofs.touching.Statement.{statement}
 use Rattle.mask.proofs.touching.Tie as tie
@@ -26,9 +26,9 @@ loop-again c =
     (λ w. (
       omega arith,
       rw w.2
-          (picked-take _ _ _ _ inv.1 (sym c.before.meets.ensures ∙ w.0.taken) w.1.ensures),
+          (picked_take _ _ _ _ inv.1 (sym c.before.meets.ensures ∙ w.0.taken) w.1.ensures),
     ))
-    (λ w. (omega arith, rw w.1 (picked-skip _ _ _ inv.1 (sym c.before.meets.ensures ∙ w.0.left))))
+    (λ w. (omega arith, rw w.1 (picked_skip _ _ _ inv.1 (sym c.before.meets.ensures ∙ w.0.left))))
     c.if1.branch
 
 returns : tie.Need-returns invariant-loop decreases-loop

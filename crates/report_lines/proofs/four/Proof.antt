@@ -2,36 +2,36 @@
 use Prim.Native.Nat.{◌+◌, ◌*◌, ◌≤◌}
 use native.Mathlib.Omega.{arith}
 use lib.ListN.{length}
-use Rattle.analysis_masks.specs.AnalysisMasksInner.{reportIn}
-use Rattle.book_judge.specs.Read.{tableIn}
+use Rattle.analysis_masks.specs.AnalysisMasksInner.{report_in}
+use Rattle.book_judge.specs.Read.{table_in}
 use Rattle.book_judge.specs.BookJudgeInner.{n_of}
-use Rattle.report_lines.specs.FourLines.{fourLines, pairsLine}
-use Rattle.report_text.proofs.AddedLaws.{added-on, added-first}
-use Rattle.report_masks.proofs.BodyMasksLaws.{in-book}
+use Rattle.report_lines.specs.FourLines.{four_lines, pairs_line}
+use Rattle.report_text.proofs.AddedLaws.{added_on, added_first}
+use Rattle.report_masks.proofs.BodyMasksLaws.{in_book}
 use borrow.Author.Rules.{rules}
 use Rattle.report_lines.proofs.four.Statement.{statement}
 use Rattle.report_lines.proofs.four.Tie as tie
 
 -- a book that was read has its head
 head : (c : tie.Start) → 4 + 4 * n_of c.args.book.now ≤ length c.args.book.now
-head c = (in-book c.args.book.now c.requires).inside.contents
+head c = (in_book c.args.book.now c.requires).inside.contents
 
 returns : tie.Need-returns
-unfolding fourLines pairsLine tableIn
+unfolding four_lines pairs_line table_in
 returns c =
     let p = c.before.before in
     let e = p.before.before in
     let n = e.before.before in
     let j = n.before.before.before.before.before.before in
     let f = j.judged.ensures in
-    let three = added-on (added-on n.numbered.ensures e.ends-line.ensures) p.pairs-line.ensures in
+    let three = added_on (added_on n.numbered.ensures e.ends-line.ensures) p.pairs-line.ensures in
     record {
       text = record {
-        report = reportIn j.judged.result.summary f.marks;
+        report = report_in j.judged.result.summary f.marks;
         says = f.says;
         bound = f.bound;
         bounds = f.bounds;
-        is = rw (← f.is) (added-first (added-on three c.cleared-line.ensures));
+        is = rw (← f.is) (added_first (added_on three c.cleared-line.ensures));
       };
       size = search rules;
       most = search rules;

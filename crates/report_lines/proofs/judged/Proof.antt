@@ -6,14 +6,14 @@ use native.Mathlib.Omega.{arith}
 use lib.Dec.{ltb}
 use Rattle.bytes.specs.EachByte.{Bytes}
 use Rattle.analysis_pairs.specs.declared.Masks.{Masks}
-use Rattle.analysis_masks.specs.AnalysisMasksInner.{Orderly, reportIn}
+use Rattle.analysis_masks.specs.AnalysisMasksInner.{Orderly, report_in}
 use Rattle.analysis_masks.specs.Report.{Reported}
-use Rattle.analysis_marks.specs.AnalysisMarksInner.{noMarks}
+use Rattle.analysis_marks.specs.AnalysisMarksInner.{no_marks}
 use Rattle.analysis_masks.specs.Bound.{Bounded}
-use Rattle.analysis_masks.proofs.BoundLaws.{triggering-orderly, bounded-in}
+use Rattle.analysis_masks.proofs.BoundLaws.{triggering-orderly, bounded_in}
 use Rattle.analysis.specs.Says.{BoundSays}
-use Rattle.analysis.proofs.SaysLaws.{sound-reports, sound-bounds}
-use Rattle.book_judge.specs.Read.{tableIn}
+use Rattle.analysis.proofs.SaysLaws.{sound_reports, sound-bounds}
+use Rattle.book_judge.specs.Read.{table_in}
 use Rattle.book_judge.specs.BookJudgeInner.{n_of}
 use Rattle.book_judge.proofs.ReadLaws.{read_done}
 use Rattle.report_lines.proofs.LinesLaws.{all-rules}
@@ -39,7 +39,7 @@ abbrev lent : tie.After-marks → tie.After-taken
 lent c = c.before.before.before.before.before.before.before.before.before
 
 judged-requires : tie.Need-judged-requires
-unfolding noMarks
+unfolding no_marks
 judged-requires c κs = (orderly (lent c), refl)
 
 below-requires : tie.Need-below-requires
@@ -49,7 +49,7 @@ bound-requires : tie.Need-bound-requires
 bound-requires c κs = let t = lent c.before.before.before.before in triggering-orderly t.taken.result (orderly t)
 
 returns : tie.Need-returns
-unfolding tableIn
+unfolding table_in
 returns c =
     let l = c.before in
     let v = l.before.before.before in
@@ -64,12 +64,12 @@ returns c =
     let n : m.n ≡ n_of s = ap (λ (m : Masks). m.n) e in
     let whole : set ≡ 2 ^ n_of s - 1 =
     all-rules (n_of s) set (few-rules s (start t).pre) (omega (arith, l.below.type-inv)) (λ k. l.below.ensures k ∙ ap (ltb k) n) in
-    let bounded : Bounded m set b = bounded-in m set b c.bound.ensures in
+    let bounded : Bounded m set b = bounded_in m set b c.bound.ensures in
     record {
       marks = marks;
-      says = sound-reports sound (subst (λ (m : Masks). Reported m (reportIn v.judged.result marks)) e v.judged.ensures);
+      says = sound_reports sound (subst (λ (m : Masks). Reported m (report_in v.judged.result marks)) e v.judged.ensures);
       bound = b;
-      bounds = subst (λ (x : ℕ). BoundSays (tableIn s) x b) whole
+      bounds = subst (λ (x : ℕ). BoundSays (table_in s) x b) whole
           (sound-bounds sound (subst (λ (m : Masks). Bounded m set b) e bounded));
       is = refl;
     }

@@ -3,9 +3,9 @@ use mathlib.Core.Path.{◌≡◌, sym, ap, ◌∙◌, subst}
 use Rattle.table.specs.declared.Answer.{Answer}
 use Rattle.book_judge.specs.Read.{Reading, read_of}
 use Rattle.book_judge.proofs.ReadLaws.{read_done}
-use Rattle.report_lines.specs.FourLines.{refusedLine}
+use Rattle.report_lines.specs.FourLines.{refused_line}
 use lib.ListN.{take}
-use Rattle.report_text.proofs.AddedLaws.{added-first}
+use Rattle.report_text.proofs.AddedLaws.{added_first}
 use Rattle.report_lines.specs.Lines.{FourLines}
 use borrow.Author.Rules.{rules}
 use Rattle.report_lines.proofs.told.Statement.{statement}
@@ -17,7 +17,7 @@ returns c =
     let p = i.before.before.before.requires in
     record {
       text = record {
-        refused = λ _. added-first c.numbered.ensures ∙ ap (λ (a : Answer). refusedLine a.number a.place) p;
+        refused = λ _. added_first c.numbered.ensures ∙ ap (λ (a : Answer). refused_line a.number a.place) p;
         done = λ e. absurd (i.if1.true (ap (λ (a : Answer). a.number) p ∙ e));
       };
       size = search rules;

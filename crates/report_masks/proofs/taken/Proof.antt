@@ -9,26 +9,26 @@ use Rattle.rule.specs.declared.Rule.{Rule}
 use Rattle.rule.specs.Fill.{filled}
 use Rattle.rule.proofs.FillLaws.{filled_more}
 use Rattle.rule.specs.Uses.{reads, writes}
-use Rattle.rule_read.specs.Parts.{ruleOf}
+use Rattle.rule_read.specs.Parts.{rule_of}
 use Rattle.rule_read.specs.RuleReadInner.{Room}
-use Rattle.table.specs.Table.{ruleAt}
-use Rattle.book_judge.specs.Read.{tableIn}
+use Rattle.table.specs.Table.{rule_at}
+use Rattle.book_judge.specs.Read.{table_in}
 use Rattle.book_judge.specs.BookJudgeInner.{n_of}
 use Rattle.analysis.specs.TableMasks.{cells_of}
 use Rattle.analysis.proofs.TableMasksLaws.{rows_of, cells-more}
-use Rattle.report_masks.proofs.BodyMasksLaws.{in-book, few-rules, body_is, body-room}
+use Rattle.report_masks.proofs.BodyMasksLaws.{in_book, few-rules, body_is, body-room}
 use borrow.Author.Rules.{rules}
 use Rattle.report_masks.proofs.taken.Statement.{statement}
 use Rattle.report_masks.proofs.taken.Tie as tie
 
 -- the mask of rule h that its rule gives
 abbrev row : (Rule → ℕ) → List ℕ → ℕ → ℕ
-row f s h = f (ruleAt (tableIn s) h)
+row f s h = f (rule_at (table_in s) h)
 
 abbrev invariant-loop : tie.invariant-loop
 invariant-loop s n watch₀ reads₀ writes₀ precedes₀ i₀ ws rs us ps i =
-    (i ≤ n) × (n ≤ 32) × (ws ≡ filled 32 0 (row (λ r. r.watch) s) i) × (rs ≡ filled 32 0 (cells_of reads (tableIn s)) i)
-    × (us ≡ filled 32 0 (cells_of writes (tableIn s)) i)
+    (i ≤ n) × (n ≤ 32) × (ws ≡ filled 32 0 (row (λ r. r.watch) s) i) × (rs ≡ filled 32 0 (cells_of reads (table_in s)) i)
+    × (us ≡ filled 32 0 (cells_of writes (table_in s)) i)
     × (ps ≡ filled 32 0 (row (λ r. r.precedes) s) i)
 
 abbrev decreases-loop : tie.decreases-loop
@@ -40,7 +40,7 @@ module _ (c : tie.Start invariant-loop decreases-loop) where
   book = c.args.book.now
 
   contents : 4 + 4 * n_of book ≤ length book
-  contents = (in-book book c.requires).inside.contents
+  contents = (in_book book c.requires).inside.contents
 
 loop-holds : tie.Need-loop-init invariant-loop decreases-loop
 loop-holds c =
@@ -69,7 +69,7 @@ head c =
     omega (
       arith,
       (body-room s c.before.before.loop.i at (byte_at s (at + 8)) (byte_at s (at + 9)) c.start.ensures.0 refl refl
-          (in-book s (start c.before).pre) (low c.before)).inside,
+          (in_book s (start c.before).pre) (low c.before)).inside,
     )
 
 -- and room for its parts
@@ -95,10 +95,10 @@ module _ (c : tie.After-counts-at invariant-loop decreases-loop) where
   room : Room s at t a 0
   room =
       let r = body-room s i at t a found.start.ensures.0 c.counts-at.ensures.tests c.counts-at.ensures.assigns
-      (in-book s (start found.before).pre) (low found.before) in
+      (in_book s (start found.before).pre) (low found.before) in
       record { tests = r.tests; assigns = r.assigns; letters = omega arith; inside = omega (arith, r.inside) }
 
-  same : ruleOf s at t a (byte_at s (at + 10)) ≡ ruleAt (tableIn s) i
+  same : rule_of s at t a (byte_at s (at + 10)) ≡ rule_at (table_in s) i
   same =
       body_is s i at t a found.start.ensures.0 c.counts-at.ensures.tests c.counts-at.ensures.assigns
       (low found.before)
@@ -128,23 +128,23 @@ loop-again c =
       omega (arith, l.loop-test.taken),
       inv.1,
       rw (inv.2, w) (filled_more 32 0 (row (λ r. r.watch) b) j small),
-      cells-more (tableIn b) reads j small (same d) (search rules) (λ x. c.before.before.reads.ensures x (byte_at b (at d + 10)))
+      cells-more (table_in b) reads j small (same d) (search rules) (λ x. c.before.before.reads.ensures x (byte_at b (at d + 10)))
           inv.3,
-      cells-more (tableIn b) writes j small (same d) (search rules) (λ x. c.before.writes.ensures x (byte_at b (at d + 10))) inv.4,
+      cells-more (table_in b) writes j small (same d) (search rules) (λ x. c.before.writes.ensures x (byte_at b (at d + 10))) inv.4,
       rw (inv.5, p) (filled_more 32 0 (row (λ r. r.precedes) b) j small),
     )
 
 returns : tie.Need-returns invariant-loop decreases-loop
-unfolding tableIn
+unfolding table_in
 returns c =
     let l = c.before.loop in
     let k = c.before.before in
     let b = book k.before.before.before in
     let e : l.i ≡ n_of b = omega (arith, l.invariant.0, c.loop-test.false, k.count.ensures.0) in
-    rows_of (tableIn b) k.count.ensures.0
+    rows_of (table_in b) k.count.ensures.0
     (l.invariant.2 ∙ ap (filled 32 0 (row (λ r. r.watch) b)) e)
-    (l.invariant.3 ∙ ap (filled 32 0 (cells_of reads (tableIn b))) e)
-    (l.invariant.4 ∙ ap (filled 32 0 (cells_of writes (tableIn b))) e)
+    (l.invariant.3 ∙ ap (filled 32 0 (cells_of reads (table_in b))) e)
+    (l.invariant.4 ∙ ap (filled 32 0 (cells_of writes (table_in b))) e)
     (l.invariant.5 ∙ ap (filled 32 0 (row (λ r. r.precedes) b)) e)
 
 pub taken-spec : {M : Type 1} → statement M

@@ -6,7 +6,7 @@ use borrow.Author.Rules.{rules}
 use borrow.Fn.Kinds.{In}
 use borrow.Fn.PlainCycle.{Measures, is, falls, and}
 use Rattle.report_text.proofs.TextLaws.{digits-none, digits_last, digits_more}
-use Rattle.report_text.proofs.AddedLaws.{added-on, added_none, added-as}
+use Rattle.report_text.proofs.AddedLaws.{added_on, added_none, added_as}
 use Rattle.report_text.proofs.push.Reads as push-reads
 use Rattle.report_text.proofs.digits.Reads as digits
 use Rattle.report_text.proofs.digits.Kinds as digits-kinds
@@ -30,7 +30,7 @@ module _ (t : ℕ) where
   returns : digits-lts.Need-returns (calls t) (digits-at t) digits.Post
   returns c =
       let a = c.before.args in
-      added-as (added_none a.out.now a.at) (sym (digits-none a.f a.x c.if1.true)) (omega arith)
+      added_as (added_none a.out.now a.at) (sym (digits-none a.f a.x c.if1.true)) (omega arith)
 
   cast-push : digits-lts.Need-overflow-cast-push (calls t) (digits-at t) digits.Post
   cast-push c = omega arith
@@ -44,7 +44,7 @@ module _ (t : ℕ) where
   returns-2 : digits-lts.Need-returns-2 (calls t) (digits-at t) digits.Post
   returns-2 c =
       let a = c.before.before.before.before.args in
-      added-as c.push.ensures (sym (digits_last a.f a.x (omega arith) c.before.before.if2.true)) (omega arith)
+      added_as c.push.ensures (sym (digits_last a.f a.x (omega arith) c.before.before.if2.true)) (omega arith)
 
   sub-digits : digits-lts.Need-overflow-sub-digits (calls t) (digits-at t) digits.Post
   sub-digits c = omega arith
@@ -65,7 +65,7 @@ module _ (t : ℕ) where
   returns-3 c =
       let d = c.before.before in
       let a = d.before.before.before.before.args in
-      added-as (added-on d.digits.ensures c.push2.ensures)
+      added_as (added_on d.digits.ensures c.push2.ensures)
       (sym (digits_more a.f a.x (omega arith) d.before.before.if2.false))
       (omega arith)
 

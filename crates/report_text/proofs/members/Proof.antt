@@ -10,7 +10,7 @@ use Rattle.bytes.specs.Joined.{joined}
 use Rattle.bytes.proofs.JoinedLaws.{joined-more}
 use Rattle.report_text.specs.Text.{spaced, members}
 use Rattle.report_text.specs.ReportTextInner.{Added}
-use Rattle.report_text.proofs.AddedLaws.{added_none, added-as, added-numbers}
+use Rattle.report_text.proofs.AddedLaws.{added_none, added_as, added_numbers}
 use borrow.Author.Rules.{rules}
 use Rattle.report_text.proofs.members.Statement.{statement}
 use Rattle.report_text.proofs.members.Tie as tie
@@ -23,7 +23,7 @@ next : (m i : ℕ) {d : List ℕ} {at : ℕ} {e : List ℕ} {p : ℕ} → Added 
     → {f : List ℕ} {q : ℕ} → Added e p (spaced (cond b (i ∷ []) [])) 11 f q → Added d at (spaced (below m (i + 1))) (11 * (i + 1)) f q
 next m i h b e g =
     let more = ap (λ (x : Bool). below m i ++ cond x (i ∷ []) []) (sym e) in
-    added-as (added-numbers (below m i) (cond b (i ∷ []) []) h g)
+    added_as (added_numbers (below m i) (cond b (i ∷ []) []) h g)
     (ap spaced (more ∙ sym (joined-more i (λ x. cond (has m x) (x ∷ []) []))))
     (omega arith)
 
@@ -49,7 +49,7 @@ loop-again c =
           (λ w. rw (w.3, w.4) (next m at.i at.invariant.2 true (sym told ∙ w.0.taken) w.2.ensures))
           (λ w.
           rw (w.1, w.2)
-          (next m at.i at.invariant.2 false (sym told ∙ w.0.left) (added-as (added_none at.out at.end) refl (omega arith))))
+          (next m at.i at.invariant.2 false (sym told ∙ w.0.left) (added_as (added_none at.out at.end) refl (omega arith))))
           c.if1.branch,
     )
 
@@ -58,7 +58,7 @@ unfolding members
 returns c =
     let at = c.before.loop in
     let e : at.i ≡ 32 = omega arith in
-    added-as at.invariant.2 (ap (λ (i : ℕ). spaced (below c.before.before.args.m i)) e) (omega arith)
+    added_as at.invariant.2 (ap (λ (i : ℕ). spaced (below c.before.before.args.m i)) e) (omega arith)
 
 pub members-spec : {M : Type 1} → statement M
 members-spec =

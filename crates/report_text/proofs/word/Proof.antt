@@ -4,7 +4,7 @@ use mathlib.Core.List.{List}
 use Prim.Native.Nat.{ℕ, ◌+◌}
 use lib.ListN.{length}
 use Rattle.report_text.specs.ReportTextInner.{Added}
-use Rattle.report_text.proofs.AddedLaws.{added-put}
+use Rattle.report_text.proofs.AddedLaws.{added_put}
 use borrow.Author.Rules.{rules}
 use Rattle.report_text.proofs.word.Statement.{statement}
 use Rattle.report_text.proofs.word.Tie as tie
@@ -14,7 +14,7 @@ returns c =
     let a = c.before.before.before.args in
     let w = a.w.now in
     subst (λ (e : List ℕ). Added a.out.now a.at w (length w) e (a.at + length w)) (sym c.put-bytes.ensures)
-    (added-put a.out.now a.at w (search rules))
+    (added_put a.out.now a.at w (search rules))
 
 pub word-spec : {M : Type 1} → statement M
 word-spec = tie.close (tie.spec (λ c κs. search rules) (λ c. search rules) returns)

@@ -6,16 +6,16 @@ use lib.IntN.{ℤ}
 use mir.Facts.{to_z-of_z}
 use borrow.Author.Rules.{rules, sfits_of}
 use Rattle.rule.specs.declared.Assign.{Assign}
-use Rattle.rule.specs.Uses.{assignAt}
+use Rattle.rule.specs.Uses.{assign_at}
 use Rattle.bytes.specs.Little.{byte_at}
-use Rattle.rule_act.specs.RuleActInner.{slotRule, Put, Stored}
-use Rattle.rule_act.proofs.ActSlotLaws.{assign-in, stored-none, stored_one}
+use Rattle.rule_act.specs.RuleActInner.{slot_rule, Put, Stored}
+use Rattle.rule_act.proofs.ActSlotLaws.{assign_in_lem, stored-none, stored_one}
 use Rattle.rule_act.proofs.store.Statement.{statement}
 use Rattle.rule_act.proofs.store.Tie as tie
 
 abbrev invariant-loop : tie.invariant-loop
 invariant-loop s at values cells₀ m₀ j₀ j-end cells m j =
-    (j ≤ j-end) × (j-end ≡ byte_at s (at + 9)) × Stored (slotRule s at) cells₀ j cells m
+    (j ≤ j-end) × (j-end ≡ byte_at s (at + 9)) × Stored (slot_rule s at) cells₀ j cells m
 
 abbrev decreases-loop : tie.decreases-loop
 decreases-loop s at values cells₀ m₀ j₀ j-end cells m j = j-end - j
@@ -23,7 +23,7 @@ decreases-loop s at values cells₀ m₀ j₀ j-end cells m j = j-end - j
 loop-holds : tie.Need-loop-init invariant-loop decreases-loop
 loop-holds c =
     let a = c.before.before.before.args in
-    (search rules, c.count.ensures.0, stored-none (slotRule a.s.now a.at) a.cells.now)
+    (search rules, c.count.ensures.0, stored-none (slot_rule a.s.now a.at) a.cells.now)
 
 -- assignment j is one of at most 8
 few : (c : tie.In-loop invariant-loop decreases-loop) → c.before.loop.j < 8
@@ -40,13 +40,13 @@ element-copy-out-put c = few c.before.before.before
 target : (c : tie.After-put-arg invariant-loop decreases-loop) →
     let l = c.before.before.before.before in
     let a = l.before.before.before.before.args in
-    c.before.count2.result ≡ (assignAt (slotRule a.s.now a.at) l.loop.j).target
+    c.before.count2.result ≡ (assign_at (slot_rule a.s.now a.at) l.loop.j).target
 target c =
     let k = c.before.before.before in
     let l = k.before in
     let a = l.before.before.before.before.args in
     c.before.count2.ensures.0
-    ∙ ap (λ (x : Assign). x.target) (assign-in a.s.now a.at l.loop.j (few k))
+    ∙ ap (λ (x : Assign). x.target) (assign_in_lem a.s.now a.at l.loop.j (few k))
 
 put-requires : tie.Need-put-requires invariant-loop decreases-loop
 put-requires c κs =
@@ -61,7 +61,7 @@ loop-again c =
     let l = k.before.loop in
     let start = k.before.before.before.before.before in
     let a = start.args in
-    let r = slotRule a.s.now a.at in
+    let r = slot_rule a.s.now a.at in
     let less : l.j < r.a = omega arith in
     let v = to_z-of_z (sfits_of c.before.put-arg2.given) ∙ start.requires.2.each l.j less in (
       search rules,
@@ -76,7 +76,7 @@ returns c =
     let l = c.before.loop in
     let a = c.before.before.before.before.before.args in
     let e : l.j ≡ byte_at a.s.now (a.at + 9) = omega arith in
-    subst (λ (n : ℕ). Stored (slotRule a.s.now a.at) a.cells.now n l.cells l.m) e l.invariant.2
+    subst (λ (n : ℕ). Stored (slot_rule a.s.now a.at) a.cells.now n l.cells l.m) e l.invariant.2
 
 pub store_spec : {M : Type 1} → statement M
 store_spec =

@@ -1,15 +1,15 @@
 -- Of the assignments passed, one has a bad cell exactly when `bad`.
 use mathlib.Core.Path.{refl}
 use Prim.Native.Nat.{◌+◌, ◌*◌, ◌≤◌, ◌-◌}
-use Rattle.mask.proofs.LoopsLaws.{Sought, sought-none, sought-more, sought-all}
-use Rattle.rule.specs.Numbers.{assignCellBad}
-use Rattle.rule_read.specs.Parts.{assignIn}
+use Rattle.mask.proofs.LoopsLaws.{Sought, sought_none, sought_more, sought_all}
+use Rattle.rule.specs.Numbers.{assign_cell_bad}
+use Rattle.rule_read.specs.Parts.{assign_in}
 use borrow.Author.Rules.{rules}
 use Rattle.rule_check.proofs.assign_cells_bad.Statement.{statement}
 use Rattle.rule_check.proofs.assign_cells_bad.Tie as tie
 
 abbrev invariant-loop : tie.invariant-loop
-invariant-loop s p a k bad₀ j₀ bad j = (j ≤ a) × Sought (λ x. assignCellBad k (assignIn s (p + 20 * x))) j bad
+invariant-loop s p a k bad₀ j₀ bad j = (j ≤ a) × Sought (λ x. assign_cell_bad k (assign_in s (p + 20 * x))) j bad
 
 abbrev decreases-loop : tie.decreases-loop
 decreases-loop s p a k bad₀ j₀ bad j = a - j
@@ -17,10 +17,10 @@ decreases-loop s p a k bad₀ j₀ bad j = a - j
 pub assign-cells-bad-spec : {M : Type 1} → statement M
 assign-cells-bad-spec =
     tie.close
-    (tie.spec invariant-loop decreases-loop (λ c. (search rules, sought-none)) (λ c. search rules) (λ c. search rules) (λ c κs. search rules)
+    (tie.spec invariant-loop decreases-loop (λ c. (search rules, sought_none)) (λ c. search rules) (λ c. search rules) (λ c κs. search rules)
     (λ c κs. search rules) (λ c. search rules) (λ c. search rules)
     (λ c. (
       search rules,
-      rw (c.assign-cell-bad.ensures, c.before.read-assign.ensures) (sought-more c.before.before.before.loop.invariant.1 refl),
+      rw (c.assign-cell-bad.ensures, c.before.read-assign.ensures) (sought_more c.before.before.before.loop.invariant.1 refl),
     ))
-    (λ c. sought-all c.before.loop.invariant.1 c.before.loop.invariant.0 c.loop-test.false))
+    (λ c. sought_all c.before.loop.invariant.1 c.before.loop.invariant.0 c.loop-test.false))

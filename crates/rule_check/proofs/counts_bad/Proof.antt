@@ -1,12 +1,12 @@
 -- The four count bytes are those of the rule that is read there.
 use mathlib.Core.Path.{refl}
 use borrow.Author.Rules.{rules}
-use Rattle.rule.specs.Numbers.{countsBad}
+use Rattle.rule.specs.Numbers.{counts_bad}
 use Rattle.rule_check.proofs.counts_bad.Statement.{statement}
 use Rattle.rule_check.proofs.counts_bad.Tie as tie
 
 returns : tie.Need-returns
-unfolding countsBad
+unfolding counts_bad
 returns c = refl
 
 pub counts-bad-spec : {M : Type 1} → statement M

@@ -2,7 +2,7 @@
 use mathlib.Core.Path.{refl}
 use Prim.Native.Nat.{◌+◌, ◌*◌, ◌≤◌, ◌-◌}
 use lib.Dec.{eqb}
-use Rattle.mask.proofs.LoopsLaws.{Sought, sought-none, sought-more, sought-all}
+use Rattle.mask.proofs.LoopsLaws.{Sought, sought_none, sought_more, sought_all}
 use Rattle.bytes.specs.Little.{byte_at}
 use borrow.Author.Rules.{rules}
 use Rattle.rule_check.proofs.target_taken.Statement.{statement}
@@ -17,7 +17,7 @@ decreases-loop s p j y bad₀ i₀ bad i = j - i
 pub target-taken-spec : {M : Type 1} → statement M
 target-taken-spec =
     tie.close
-    (tie.spec invariant-loop decreases-loop (λ c. search rules) (λ c. search rules) (λ c. search rules) (λ c. (search rules, sought-none))
+    (tie.spec invariant-loop decreases-loop (λ c. search rules) (λ c. search rules) (λ c. search rules) (λ c. (search rules, sought_none))
     (λ c. search rules) (λ c. search rules) (λ c. search rules) (λ c. search rules) (λ c. search rules)
-    (λ c. (search rules, sought-more c.before.before.loop.invariant.1 refl))
-    (λ c. sought-all c.before.loop.invariant.1 c.before.loop.invariant.0 c.loop-test.false))
+    (λ c. (search rules, sought_more c.before.before.loop.invariant.1 refl))
+    (λ c. sought_all c.before.loop.invariant.1 c.before.loop.invariant.0 c.loop-test.false))

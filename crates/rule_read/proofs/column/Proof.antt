@@ -5,13 +5,13 @@ use native.Mathlib.Omega.{arith}
 use lib.ListN.{length}
 use Rattle.bytes.specs.Little.{u32_at}
 use Rattle.rule.proofs.FillLaws.{filled_more}
-use Rattle.rule_read.specs.RuleReadInner.{columnIn}
+use Rattle.rule_read.specs.RuleReadInner.{column_in}
 use borrow.Author.Rules.{rules}
 use Rattle.rule_read.proofs.column.Statement.{statement}
 use Rattle.rule_read.proofs.column.Tie as tie
 
 abbrev invariant-loop : tie.invariant-loop
-invariant-loop s at step n q₀ i₀ q i = (i ≤ n) × (q ≡ columnIn s at step i)
+invariant-loop s at step n q₀ i₀ q i = (i ≤ n) × (q ≡ column_in s at step i)
 
 abbrev decreases-loop : tie.decreases-loop
 decreases-loop s at step n q₀ i₀ q i = n - i
@@ -36,7 +36,7 @@ returns : tie.Need-returns invariant-loop decreases-loop
 returns c =
     let a = c.before.before.before.args in
     let e : c.before.loop.i ≡ a.n = omega arith in
-    c.before.loop.invariant.1 ∙ ap (columnIn a.s.now a.at a.step) e
+    c.before.loop.invariant.1 ∙ ap (column_in a.s.now a.at a.step) e
 
 pub column-spec : {M : Type 1} → statement M
 column-spec =

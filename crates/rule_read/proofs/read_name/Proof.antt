@@ -4,13 +4,13 @@ use Prim.Native.Nat.{◌+◌, ◌<◌, ◌≤◌, ◌-◌}
 use native.Mathlib.Omega.{arith}
 use Rattle.bytes.specs.Little.{byte_at}
 use Rattle.rule.proofs.FillLaws.{filled_more}
-use Rattle.rule_read.specs.Parts.{nameIn}
+use Rattle.rule_read.specs.Parts.{name_in}
 use borrow.Author.Rules.{rules}
 use Rattle.rule_read.proofs.read_name.Statement.{statement}
 use Rattle.rule_read.proofs.read_name.Tie as tie
 
 abbrev invariant-loop : tie.invariant-loop
-invariant-loop s at m out₀ j₀ out j = (j ≤ m) × (out ≡ nameIn s at j)
+invariant-loop s at m out₀ j₀ out j = (j ≤ m) × (out ≡ name_in s at j)
 
 abbrev decreases-loop : tie.decreases-loop
 decreases-loop s at m out₀ j₀ out j = m - j
@@ -29,7 +29,7 @@ returns : tie.Need-returns invariant-loop decreases-loop
 returns c =
     let a = c.before.before.args in
     let e : c.before.loop.j ≡ a.m = omega arith in
-    c.before.loop.invariant.1 ∙ ap (nameIn a.s.now a.at) e
+    c.before.loop.invariant.1 ∙ ap (name_in a.s.now a.at) e
 
 pub read-name-spec : {M : Type 1} → statement M
 read-name-spec =

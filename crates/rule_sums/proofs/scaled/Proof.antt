@@ -7,13 +7,13 @@ use mir.Syntax.{w64}
 use mir.Val.{SFits, to_z}
 use mir.Facts.{to_z-of_z, to_z_pos}
 use Rattle.rule_sums.specs.Sums.{scaled}
-use Rattle.rule_sums.proofs.PenceLaws.{product-fits, scaled_fits}
+use Rattle.rule_sums.proofs.PenceLaws.{product_fits, scaled_fits}
 use Rattle.rule_sums.proofs.scaled.Statement.{statement}
 use Rattle.rule_sums.proofs.scaled.Tie as tie
 
 module _ (c : tie.Start) where
   product : SFits w64 (c.args.v *ℤ pos c.args.p)
-  product = product-fits c.args.v c.args.p c.requires.0 c.requires.1
+  product = product_fits c.args.v c.args.p c.requires.0 c.requires.1
 
   quotient : SFits w64 (scaled c.args.v c.args.p c.args.q)
   quotient = scaled_fits c.args.v c.args.p c.requires.0 c.requires.1 c.args.q

@@ -7,7 +7,7 @@ use mir.Syntax.{w64}
 use mir.Val.{to_z, of_z}
 use mir.Facts.{to_z-of_z}
 use borrow.Author.Rules.{rules, sfits_of}
-use Rattle.rule.specs.Numbers.{outOfRange}
+use Rattle.rule.specs.Numbers.{out_of_range}
 use Rattle.rule_sums.specs.Sums.{at, operated, value_of}
 use Rattle.rule_sums.specs.RuleSumsInner.{InBounds, InRange}
 use Rattle.rule_sums.proofs.worked.Statement.{statement}
@@ -34,13 +34,13 @@ module _ (c : tie.After-struct-told) where
   abbrev needed : let a = c.before.before.before.before.before.args in InBounds a.x × InRange a.cells.now
   needed = c.before.before.before.before.before.requires
 
-  left_in : outOfRange (to_z w64 (of_z w64 c.before.before.before.amount.result)) ≡ false
+  left_in : out_of_range (to_z w64 (of_z w64 c.before.before.before.amount.result)) ≡ false
   left_in = rw (left c) (needed.1.each _)
 
-  right-in : outOfRange (to_z w64 (of_z w64 c.before.amount2.result)) ≡ false
+  right-in : out_of_range (to_z w64 (of_z w64 c.before.amount2.result)) ≡ false
   right-in = rw (right c) (needed.1.each _)
 
-  constant-in : outOfRange (to_z w64 (of_z w64 c.before.before.before.before.before.args.x.k)) ≡ false
+  constant-in : out_of_range (to_z w64 (of_z w64 c.before.before.before.before.before.args.x.k)) ≡ false
   constant-in = rw (constant c) needed.0.constant
 
 returns : tie.Need-returns

@@ -4,9 +4,9 @@ use Prim.Native.Nat.{◌+◌, ◌*◌}
 use lib.Dec.{eqb, ltb}
 use Rattle.bytes.specs.Little.{byte_at}
 use Rattle.rule.specs.declared.Assign.{Assign}
-use Rattle.rule.specs.Empty.{noAssign}
+use Rattle.rule.specs.Empty.{no_assign}
 use Rattle.rule.specs.Uses.{writes}
-use Rattle.rule_read.specs.Parts.{assignIn}
+use Rattle.rule_read.specs.Parts.{assign_in}
 use Rattle.rule_uses.proofs.UsesLaws.{out-filled}
 use borrow.Author.Rules.{rules}
 use Rattle.rule_uses.proofs.writes.Statement.{statement}
@@ -21,7 +21,7 @@ returns c =
     λ x m.
     c.targets.ensures x
     ∙ rw c.before.count_at.ensures
-    (out-filled (ltb x 32) (byte_at s (at + 9)) noAssign (λ j. assignIn s (at + 12 + 12 * b.args.t + 20 * j)) b.args.a
+    (out-filled (ltb x 32) (byte_at s (at + 9)) no_assign (λ j. assign_in s (at + 12 + 12 * b.args.t + 20 * j)) b.args.a
     (λ (y : Assign). eqb x y.target)
     b.requires.1)
 

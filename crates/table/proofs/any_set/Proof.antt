@@ -2,28 +2,28 @@
 use mathlib.Core.Path.{◌≡◌, refl}
 use Prim.Native.Nat.{◌≤◌, ◌-◌}
 use lib.ListN.{length, get_or}
-use Rattle.mask.proofs.LoopsLaws.{Sought, sought-none, sought-more, sought-all}
-use Rattle.rule.specs.Numbers.{notZero}
-use Rattle.table.specs.TableInner.{anySet}
+use Rattle.mask.proofs.LoopsLaws.{Sought, sought_none, sought_more, sought_all}
+use Rattle.rule.specs.Numbers.{not_zero}
+use Rattle.table.specs.TableInner.{any_set}
 use borrow.Author.Rules.{rules}
 use Rattle.table.proofs.any_set.Statement.{statement}
 use Rattle.table.proofs.any_set.Tie as tie
 
 abbrev invariant-loop : tie.invariant-loop
-invariant-loop s any₀ j₀ j-end any j = (j ≤ j-end) × (j-end ≡ length s) × Sought (λ x. notZero (get_or s x 0)) j any
+invariant-loop s any₀ j₀ j-end any j = (j ≤ j-end) × (j-end ≡ length s) × Sought (λ x. not_zero (get_or s x 0)) j any
 
 abbrev decreases-loop : tie.decreases-loop
 decreases-loop s any₀ j₀ j-end any j = j-end - j
 
 loop-holds : tie.Need-loop-init invariant-loop decreases-loop
-loop-holds c = (search rules, refl, sought-none)
+loop-holds c = (search rules, refl, sought_none)
 
 loop-again : tie.Need-loop-preserved invariant-loop decreases-loop
-loop-again c = (search rules, c.before.before.loop.invariant.1, sought-more c.before.before.loop.invariant.2 refl)
+loop-again c = (search rules, c.before.before.loop.invariant.1, sought_more c.before.before.loop.invariant.2 refl)
 
 returns : tie.Need-returns invariant-loop decreases-loop
-unfolding anySet
-returns c = sought-all c.before.loop.invariant.2 c.before.loop.invariant.0 c.loop-test.false
+unfolding any_set
+returns c = sought_all c.before.loop.invariant.2 c.before.loop.invariant.0 c.loop-test.false
 
 pub any-set-spec : {M : Type 1} → statement M
 any-set-spec =

@@ -11,14 +11,14 @@ use Rattle.bytes.specs.EachByte.{Bytes}
 use Rattle.rule.specs.declared.Rule.{Rule}
 use Rattle.rule.specs.Fill.{filled}
 use Rattle.rule.proofs.FillLaws.{filled_more}
-use Rattle.rule.specs.Numbers.{notZero, ruleNumber}
-use Rattle.rule_check.specs.RuleCheckInner.{numberWith, takenIn}
+use Rattle.rule.specs.Numbers.{not_zero, rule_number}
+use Rattle.rule_check.specs.RuleCheckInner.{number_with, taken_in}
 use Rattle.rule_check.proofs.NamesLaws.{Named, named_none, named_more, number-named}
-use Rattle.table.specs.Table.{ruleAt}
+use Rattle.table.specs.Table.{rule_at}
 use Rattle.table.specs.Check.{number_at}
-use Rattle.table.specs.Memory.{tableFrom}
-use Rattle.table.specs.TableInner.{ruleFrom}
-use Rattle.table.proofs.ImageLaws.{number-from, rule-from, from-long, from_bytes, low_word, high_word, slot-lies}
+use Rattle.table.specs.Memory.{table_from}
+use Rattle.table.specs.TableInner.{rule_from}
+use Rattle.table.proofs.ImageLaws.{number-from, rule-from, from-long, from_bytes, low_word, high_word, slot_lies}
 use Rattle.table.proofs.ImageLaws.{judged-here, judged-none}
 use borrow.Author.Rules.{rules}
 use Rattle.table.proofs.judge.Statement.{statement}
@@ -26,9 +26,9 @@ use Rattle.table.proofs.judge.Tie as tie
 
 abbrev invariant-loop : tie.invariant-loop
 invariant-loop s n k row₀ names₀ i₀ i-end row names i =
-    (i ≤ i-end) × (i-end ≡ n) × (length names ≡ 64) × Passed (λ x. notZero (number_at (tableFrom s) x)) i
-    × Named names (tableFrom s).rules i
-    × (row ≡ filled 32 0 (λ x. (ruleAt (tableFrom s) x).precedes) i)
+    (i ≤ i-end) × (i-end ≡ n) × (length names ≡ 64) × Passed (λ x. not_zero (number_at (table_from s) x)) i
+    × Named names (table_from s).rules i
+    × (row ≡ filled 32 0 (λ x. (rule_at (table_from s) x).precedes) i)
 
 abbrev decreases-loop : tie.decreases-loop
 decreases-loop s n k row₀ names₀ i₀ i-end row names i = i-end - i
@@ -56,7 +56,7 @@ number-in-requires : tie.Need-number-in-requires invariant-loop decreases-loop
 number-in-requires c κs =
     let d = c.before.before.before.before in
     let p = (start d).requires.0 in
-    (slot-lies (image d) d.before.loop.i (omega (arith, small d, p.long)), p.few-rules, p.few-cells)
+    (slot_lies (image d) d.before.loop.i (omega (arith, small d, p.long)), p.few-rules, p.few-cells)
 
 -- the number that was given is the rule's, after the rules before it
 module _ (c : tie.After-number-in invariant-loop decreases-loop) where
@@ -64,7 +64,7 @@ module _ (c : tie.After-number-in invariant-loop decreases-loop) where
   turn = c.before.before.before.before.before
 
   number : let s = image turn in let i = turn.before.loop.i in
-      c.number_in.result ≡ ruleNumber (start turn).args.n (start turn).args.k (tableFrom s).rules i (ruleFrom s i)
+      c.number_in.result ≡ rule_number (start turn).args.n (start turn).args.k (table_from s).rules i (rule_from s i)
   number =
       let t = c.before in
       let h = t.before.before in
@@ -75,28 +75,28 @@ module _ (c : tie.After-number-in invariant-loop decreases-loop) where
       let n = (start turn).args.n in
       let k = (start turn).args.k in
       c.number_in.ensures
-      ∙ ap (λ (b : Bool). numberWith n k b (ruleFrom s i))
+      ∙ ap (λ (b : Bool). number_with n k b (rule_from s i))
       (t.taken.ensures
-      ∙ ap₂ (takenIn a.loop.names i) (l.u64-at.ensures ∙ low_word s i) (h.u64-at2.ensures ∙ high_word s i))
-      ∙ number-named n k a.loop.names (tableFrom s).rules i (ruleFrom s i) a.loop.inv.4 (from_bytes s (bytes turn) i)
+      ∙ ap₂ (taken_in a.loop.names i) (l.u64-at.ensures ∙ low_word s i) (h.u64-at2.ensures ∙ high_word s i))
+      ∙ number-named n k a.loop.names (table_from s).rules i (rule_from s i) a.loop.inv.4 (from_bytes s (bytes turn) i)
       (from-long s i)
 
-  at-number : number_at (tableFrom (image turn)) turn.before.loop.i ≡ c.number_in.result
+  at-number : number_at (table_from (image turn)) turn.before.loop.i ≡ c.number_in.result
   at-number =
       let s = image turn in
       let i = turn.before.loop.i in
       let p = (start turn).pre.0 in
       number-from s i (small turn)
-      ∙ ap₂ (λ (n k : ℕ). ruleNumber n k (tableFrom s).rules i (ruleFrom s i)) (sym p.rules) (sym p.cells)
+      ∙ ap₂ (λ (n k : ℕ). rule_number n k (table_from s).rules i (rule_from s i)) (sym p.rules) (sym p.cells)
       ∙ sym number
 
 returns : tie.Need-returns invariant-loop decreases-loop
-unfolding tableFrom
+unfolding table_from
 returns c =
     let w = c.before in
     let d = turn w in
     let l = d.before.loop in (
-      sym (judged-here (tableFrom (image d)) l.i l.inv.3 w.number_in.result (low d) (at-number w) c.if1.true),
+      sym (judged-here (table_from (image d)) l.i l.inv.3 w.number_in.result (low d) (at-number w) c.if1.true),
       λ e. absurd (c.if1.true e),
     )
 
@@ -113,25 +113,25 @@ loop-again c =
       omega (arith, d.loop-test.taken),
       a.loop.inv.1,
       search rules,
-      passed-more a.loop.inv.3 (ap notZero (at-number w ∙ b.if1.false)),
-      subst₂ (λ (x y : ℕ). Named (set (set a.loop.names (2 * i) x) (2 * i + 1) y) (tableFrom s).rules (i + 1))
+      passed-more a.loop.inv.3 (ap not_zero (at-number w ∙ b.if1.false)),
+      subst₂ (λ (x y : ℕ). Named (set (set a.loop.names (2 * i) x) (2 * i + 1) y) (table_from s).rules (i + 1))
           (sym (l.u64-at.ensures ∙ low_word s i)) (sym (h.u64-at2.ensures ∙ high_word s i))
-          (named_more (start d).args.n (start d).args.k a.loop.names (tableFrom s).rules i (ruleFrom s i)
+          (named_more (start d).args.n (start d).args.k a.loop.names (table_from s).rules i (rule_from s i)
           a.loop.inv.4 a.loop.inv.2 (small d) (rule-from s i (small d)) (from_bytes s (bytes d) i) (from-long s i)
           (sym (number w) ∙ b.if1.false)),
       rw (a.loop.inv.5, c.u32-at.ensures ∙ ap (λ (r : Rule). r.precedes) (sym (rule-from s i (small d))))
-          (filled_more 32 0 (λ x. (ruleAt (tableFrom s) x).precedes) i (small d)),
+          (filled_more 32 0 (λ x. (rule_at (table_from s) x).precedes) i (small d)),
     )
 
 returns-2 : tie.Need-returns-2 invariant-loop decreases-loop
-unfolding tableFrom
+unfolding table_from
 returns-2 c =
     let z = c.before.before.before.before in
     let s = z.args.s.now in
     let l = c.before.loop in
     let e : l.i ≡ byte_at s 1 = omega (arith, z.requires.0.rules) in (
-      sym (judged-none (tableFrom s) l.i l.invariant.3 (omega (arith, z.requires.0.rules))),
-      λ _. l.invariant.5 ∙ ap (filled 32 0 (λ x. (ruleAt (tableFrom s) x).precedes)) e,
+      sym (judged-none (table_from s) l.i l.invariant.3 (omega (arith, z.requires.0.rules))),
+      λ _. l.invariant.5 ∙ ap (filled 32 0 (λ x. (rule_at (table_from s) x).precedes)) e,
     )
 
 pub judge-spec : {M : Type 1} → statement M

@@ -11,7 +11,7 @@ use Rattle.analysis_weights.specs.AnalysisWeightsInner.{Weights}
 use Rattle.analysis_pairs.specs.declared.Masks.{Masks}
 use Rattle.analysis_pairs.specs.RuleMasks.{triggers}
 use Rattle.analysis_pairs.specs.AnalysisPairsInner.{triggering, Among}
-use Rattle.analysis_pairs.proofs.LentMasksLaws.{may-in, triggers-in}
+use Rattle.analysis_pairs.proofs.LentMasksLaws.{may_in, triggers_in_lem}
 use Rattle.analysis_masks.specs.Cleared.{Faulty}
 use Rattle.analysis_masks.proofs.AlikeLaws.{may-within, triggers-rows}
 use Rattle.analysis_masks.proofs.ReportingLaws.{faulty-iff}
@@ -35,7 +35,7 @@ abbrev lent : tie.Start → Masks
 lent s = triggering s.args.n s.args.watch.now s.args.writes.now
 
 trig : (c : tie.After-triggers) → c.triggers.result ≡ triggers (lent c.before.before.before)
-trig c = c.triggers.ensures ∙ triggers-in (lent c.before.before.before)
+trig c = c.triggers.ensures ∙ triggers_in_lem (lent c.before.before.before)
 
 -- the mask of the rules at fault
 faulty : (c : tie.After-at-fault) (x : ℕ)
@@ -48,7 +48,7 @@ faulty c =
 triggers-requires : tie.Need-triggers-requires
 triggers-requires c κs =
     let s = c.before.before in
-    (s.requires.few, subst (Among s.args.n) (sym (may-in (lent s))) (may-within (lent s) s.requires))
+    (s.requires.few, subst (Among s.args.n) (sym (may_in (lent s))) (may-within (lent s) s.requires))
 
 returns-2 : tie.Need-returns-2
 returns-2 c =

@@ -5,15 +5,15 @@ use mathlib.Core.List.{List}
 use Prim.Native.Nat.{ℕ}
 use native.Mathlib.Omega.{arith}
 use Rattle.analysis_pairs.specs.declared.Masks.{Masks}
-use Rattle.analysis_pairs.specs.RuleMasks.{rulesOf, triggers}
-use Rattle.analysis_pairs.specs.AnalysisPairsInner.{rowRules, clashes, masksIn, Among, Mutual, turnedOf}
-use Rattle.analysis_pairs.proofs.LentMasksLaws.{may-in, triggers-in, commute-in, clashes-in}
+use Rattle.analysis_pairs.specs.RuleMasks.{rules_of, triggers}
+use Rattle.analysis_pairs.specs.AnalysisPairsInner.{row_rules, clashes, masks_in, Among, Mutual, turned_of}
+use Rattle.analysis_pairs.proofs.LentMasksLaws.{may_in, triggers_in_lem, commute_in, clashes_in_lem}
 use Rattle.analysis_pairs.proofs.RulesLaws.{Alike}
-use Rattle.analysis_marks.specs.AnalysisMarksInner.{Graphs, graphsIn}
+use Rattle.analysis_marks.specs.AnalysisMarksInner.{Graphs, graphs_in}
 use Rattle.analysis_marks.proofs.MarkingLaws.{Drawn}
-use Rattle.analysis_masks.proofs.AlikeLaws.{may-within, clash-within, row_within, clashes-mutual, alike_turned}
-use Rattle.analysis_masks.proofs.ReportingLaws.{faulty-iff, marks-of, cleared-iff}
-use Rattle.analysis_marks.proofs.MarkedLaws.{marks-twos, first_alike}
+use Rattle.analysis_masks.proofs.AlikeLaws.{may-within, clash-within, row_within, clashes_mutual, alike_turned}
+use Rattle.analysis_masks.proofs.ReportingLaws.{faulty-iff, marks_of_lem, cleared-iff}
+use Rattle.analysis_marks.proofs.MarkedLaws.{marks_twos, first_alike}
 use borrow.Author.Rules.{rules}
 use Rattle.analysis_masks.proofs.rows.judged.Statement.{statement}
 use Rattle.analysis_masks.proofs.rows.judged.Tie as tie
@@ -22,20 +22,20 @@ use Rattle.analysis_masks.proofs.rows.judged.Tie as tie
 abbrev lent : tie.Start → Masks
 lent s =
     let a = s.args in
-    masksIn a.n a.watch.now a.reads.now a.writes.now a.precedes.now
+    masks_in a.n a.watch.now a.reads.now a.writes.now a.precedes.now
 
 struck : (c : tie.After-clashes) → c.clashes.result ≡ clashes (lent c.before.before)
-struck c = c.clashes.ensures ∙ clashes-in (lent c.before.before)
+struck c = c.clashes.ensures ∙ clashes_in_lem (lent c.before.before)
 
 -- who does not commute with whom is mutual
 both : (c : tie.After-clashes) → Mutual c.clashes.result
-both c = let s = c.before.before in subst Mutual (sym (struck c)) (clashes-mutual (lent s) s.requires.0)
+both c = let s = c.before.before in subst Mutual (sym (struck c)) (clashes_mutual (lent s) s.requires.0)
 
 -- the graphs that are found
 abbrev graphs : tie.After-turned → Graphs
 graphs c =
     let k = c.before.before.before.before in
-    graphsIn k.before.before.args.n k.before.triggers.result c.turned.result k.clashes.result
+    graphs_in k.before.before.args.n k.before.triggers.result c.turned.result k.clashes.result
 
 drawn : (c : tie.After-turned) → Drawn (lent c.before.before.before.before.before.before) (graphs c)
 drawn c =
@@ -43,12 +43,12 @@ drawn c =
     let k = l.before.before in
     let t = k.before in
     let s = t.before in
-    let trig : t.triggers.result ≡ triggers (lent s) = t.triggers.ensures ∙ triggers-in (lent s) in
+    let trig : t.triggers.result ≡ triggers (lent s) = t.triggers.ensures ∙ triggers_in_lem (lent s) in
     record {
       n = refl;
       trig = trig;
       alike =
-          subst (λ (x : List ℕ). Alike (rowRules t.triggers.result (turnedOf x) k.clashes.result) (rulesOf (lent s)))
+          subst (λ (x : List ℕ). Alike (row_rules t.triggers.result (turned_of x) k.clashes.result) (rules_of (lent s)))
           (sym c.turned.ensures)
           (alike_turned (lent s) s.requires.0 t.triggers.result l.closure.result k.clashes.result
           trig l.closure.ensures (struck k));
@@ -56,13 +56,13 @@ drawn c =
 
 triggers-requires : tie.Need-triggers-requires
 triggers-requires c κs =
-    (c.requires.0.few, subst (Among c.args.n) (sym (may-in (lent c))) (may-within (lent c) c.requires.0))
+    (c.requires.0.few, subst (Among c.args.n) (sym (may_in (lent c))) (may-within (lent c) c.requires.0))
 
 clashes-requires : tie.Need-clashes-requires
 clashes-requires c κs =
     let s = c.before in (
       s.requires.0.few,
-      subst (λ (f : ℕ → ℕ → Bool). Among s.args.n (λ r x. not (f r x))) (sym (commute-in (lent s))) (clash-within (lent s) s.requires.0),
+      subst (λ (f : ℕ → ℕ → Bool). Among s.args.n (λ r x. not (f r x))) (sym (commute_in (lent s))) (clash-within (lent s) s.requires.0),
     )
 
 turned-requires : tie.Need-turned-requires
@@ -80,7 +80,7 @@ first-failing-requires : tie.Need-first-failing-requires
 first-failing-requires c κs =
     let f = c.before.before.before.before.before.before in
     let t = f.before.before.before.before.before.before.before in
-    (both t.before.before.before.before, marks-twos (graphs t) f.filled.new.1.1.1.1.0 f.filled.ensures.1)
+    (both t.before.before.before.before, marks_twos (graphs t) f.filled.new.1.1.1.1.0 f.filled.ensures.1)
 
 returns : tie.Need-returns
 returns c =
@@ -100,7 +100,7 @@ returns c =
           cleared-iff (lent s) s.requires.0 (graphs t) d q k l.at-fault.result _ (omega arith) on e.failing.ensures;
       faulty = on;
       size = f.filled.ensures.0;
-      marks = marks-of (lent s) s.requires.0 (graphs t) d q k;
+      marks = marks_of_lem (lent s) s.requires.0 (graphs t) d q k;
       failing = e.failing.ensures;
       first = first_alike d.alike c.first-failing.ensures;
     }
