@@ -68,6 +68,10 @@ def main():
     for w in sorted(names):
         if "-" in w and names[w] in {names[c] for c in camel if "-" not in c}:
             names[w] += "_lem"
+    fields = set()
+    for path in own:
+        for m in re.finditer(r"^( *)(?:pub )?record .*\bwhere\n((?:\1 +.*\n|\n)+)", open(path, encoding="utf-8").read() + "\n", re.M):
+            fields.update(re.findall(r"^ +(?:pub )?([^\s:(){}]+) :", m.group(2), re.M))
     taken = seen - set(names)
     kept = []
     for w in sorted(names):
@@ -87,20 +91,20 @@ def main():
             text = f.read()
         if path.endswith(".rt"):
             # clauses and imports only
-            turn = re.sub(r"(ghost use [^;]*;|^ *(?:requires|ensures)\b.*$)", lambda m: respell(m.group(0), names), text, flags=re.M)
+            turn = re.sub(r"(ghost use [^;]*;|^ *(?:requires|ensures)\b.*$)", lambda m: respell(m.group(0), names, fields), text, flags=re.M)
         elif path.endswith(".antt"):
-            turn = respell(text, names)
+            turn = respell(text, names, fields)
         else:
-            turn = re.sub(r"`[^`\n]*`", lambda m: respell(m.group(0), names), text)
+            turn = re.sub(r"`[^`\n]*`", lambda m: respell(m.group(0), names, fields), text)
         if turn != text:
             with open(path, "w", encoding="utf-8") as f:
                 f.write(turn)
 
 
-def respell(text, names):
+def respell(text, names, fields):
     def one(m):
         w = m.group(0)
-        if "-" in w and m.start() and text[m.start() - 1] == ".":
+        if "-" in w and w not in fields and m.start() and text[m.start() - 1] == ".":
             return w  # a step or a part of a generated name
         return names.get(w, w)
 

@@ -12,8 +12,8 @@ use borrow.Author.Tests.{lt-ltb}
 use Rattle.mask.proofs.SearchLaws.{lt-or_ge}
 use Rattle.mask.specs.Mask.{has, mask_of}
 use Rattle.mask.proofs.LoopsLaws.{mask_of-unique}
-use Rattle.bytes.specs.EachByte.{Bytes}
-use Rattle.bytes.proofs.BytesBackLaws.{u32_stands}
+use Rattle.little.specs.EachByte.{Bytes}
+use Rattle.little.proofs.BytesBackLaws.{u32_stands}
 use Rattle.rule.specs.declared.Rule.{Rule}
 use Rattle.rule.specs.Fill.{filled}
 use Rattle.rule.proofs.FillLaws.{filled_more, get_or-left, length-filled}

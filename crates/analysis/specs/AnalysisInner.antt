@@ -1,6 +1,6 @@
 -- What only contracts of inner functions of `analysis` cite.
 use Rattle.std.specs.Prelude.{◌≡◌, List, ℕ, length}
-use Rattle.bytes.specs.Little.{byte_at}
+use Rattle.little.specs.Little.{byte_at}
 use Rattle.table.specs.Check.{Sound}
 use Rattle.table.specs.Memory.{table_from}
 

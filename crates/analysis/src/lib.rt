@@ -1,4 +1,6 @@
 // The analysis of a table: whether it is cleared, which rules stand in the way, and the step bound of a set.
+#![tactic(auto)]
+
 ghost use Rattle.std.specs.Prelude.{◌≡◌, length};
 ghost use Rattle.table.specs.Check.{Sound};
 ghost use Rattle.table.specs.Memory.{table_from};

@@ -1,4 +1,6 @@
 // The marks of all pairs, how many fail, and the first that does.
+#![tactic(auto)]
+
 ghost use Rattle.std.specs.Prelude.{◌≡◌, suc, ◌<◌, ◌≤◌, length};
 ghost use Rattle.mask.specs.Search.{count, least};
 ghost use Rattle.graph.specs.GraphInner.{Edge};

@@ -1,4 +1,6 @@
 // The report on rules: whether they are cleared, which are at fault, and how every pair is judged.
+#![tactic(auto)]
+
 ghost use Rattle.std.specs.Prelude.{◌≡◌};
 ghost use Rattle.analysis_masks.specs.AnalysisMasksInner.{report_in};
 

@@ -1,4 +1,6 @@
 // The pair condition on rows of masks: who may trigger whom, who commutes with whom, and whether a pair passes.
+#![tactic(auto)]
+
 ghost use Rattle.std.specs.Prelude.{◌≡◌, not, [], ℕ, ◌<◌, ◌≤◌, get_or};
 ghost use Rattle.mask.specs.Mask.{has};
 ghost use Rattle.analysis_pairs.specs.RuleMasks.{may_trigger, commute};

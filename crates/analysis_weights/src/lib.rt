@@ -1,4 +1,6 @@
 // The weights of at most 32 rules: mask r of a row is the set of the rules that r may trigger.
+#![tactic(auto)]
+
 ghost use Rattle.std.specs.Prelude.{◌≡◌, ◌^◌, ◌<◌, ◌≤◌};
 ghost use Rattle.graph.specs.GraphInner.{Rows};
 ghost use Rattle.analysis_weights.specs.Weight.{total};

@@ -6,7 +6,7 @@ use Prim.Native.Nat.{ℕ, ◌≤◌}
 use lib.Dec.{eqb}
 use borrow.Author.Tests.{eqb-true, eq-eqb}
 use Rattle.mask.proofs.FirstLaws.{first-each}
-use Rattle.bytes.specs.EachByte.{Bytes}
+use Rattle.little.specs.EachByte.{Bytes}
 use Rattle.rule.specs.Empty.{no_rule}
 use Rattle.rule.proofs.FillLaws.{length-filled, each-filled}
 use Rattle.rule_write.specs.HeldRule.{HeldRule}

@@ -9,7 +9,7 @@ use lib.ListN.{length}
 use borrow.Author.Tests.{ltb-false, eqb-true, not-false}
 use Rattle.mask.specs.Search.{some}
 use Rattle.mask.proofs.SearchLaws.{or_false_both, some_false}
-use Rattle.bytes.specs.Little.{byte_at}
+use Rattle.little.specs.Little.{byte_at}
 use Rattle.rule.specs.Numbers.{counts_bad}
 use Rattle.rule.specs.RuleInner.{Counted}
 use Rattle.rule.proofs.NumbersLaws.{counted}

@@ -5,8 +5,8 @@ use mathlib.Core.List.{List}
 use Prim.Native.Nat.{ℕ, ◌+◌, ◌*◌}
 use native.Mathlib.Nat.{le_refl}
 use lib.ListN.{length}
-use Rattle.bytes.specs.Little.{byte_at}
-use Rattle.bytes.specs.EachByte.{Bytes}
+use Rattle.little.specs.Little.{byte_at}
+use Rattle.little.specs.EachByte.{Bytes}
 use Rattle.rule_read.proofs.NameReadLaws.{name-long, name-bytes}
 use Rattle.book_judge.specs.Read.{start_of}
 use Rattle.book_judge.proofs.InsideLaws.{counts}

@@ -1,7 +1,7 @@
 -- What only contracts of inner functions of `book_judge` cite.
 use Rattle.std.specs.Prelude.{◌≡◌, List, Bool, false, not, ◌||◌, ℕ, ◌+◌, ◌*◌, ◌<◌, ◌≤◌, eqb, length, drop}
 use Rattle.mask.specs.First.{first_of}
-use Rattle.bytes.specs.Little.{byte_at}
+use Rattle.little.specs.Little.{byte_at}
 use Rattle.rule.specs.declared.Rule.{Rule}
 use Rattle.rule.specs.Numbers.{counts_bad}
 use Rattle.rule_read.specs.RuleReadInner.{Room}

@@ -3,7 +3,7 @@ use Rattle.std.specs.Prelude.{Bool, not, cond, ◌||◌, List, [], ◌∷◌, �
 use Rattle.mask.specs.Search.{some, least}
 use Rattle.mask.specs.First.{first_of}
 use Rattle.graph.specs.Graph.{cyclic}
-use Rattle.bytes.specs.Little.{byte_at, u16_at}
+use Rattle.little.specs.Little.{byte_at, u16_at}
 use Rattle.rule.specs.declared.Rule.{Rule}
 use Rattle.rule.specs.Fill.{filled}
 use Rattle.rule.specs.Empty.{no_rule}

@@ -1,4 +1,6 @@
 // Judges a book where it lies: its number and its place.
+#![tactic(auto)]
+
 ghost use Rattle.std.specs.Prelude.{◌≡◌, ◌+◌, ◌*◌, ◌≤◌, ◌<◌, length};
 ghost use Rattle.rule_check.specs.RuleCheckInner.{number_with};
 ghost use Rattle.table.specs.Check.{answer};
@@ -18,7 +20,7 @@ pub fn start(s: &[u8], i: usize) -> usize
     requires { (i < 32) × (8 + 4 * i ≤ length s.now) }
     ensures { (result ≡ start_of s.now i) × (result < 65536) }
 {
-    wide(bytes::u16_at(s, 4 + 4 * i))
+    wide(little::u16_at(s, 4 + 4 * i))
 }
 
 // How long body i is said to be.
@@ -26,7 +28,7 @@ fn size(s: &[u8], i: usize) -> usize
     requires { (i < 32) × (8 + 4 * i ≤ length s.now) }
     ensures { (result ≡ length_of s.now i) × (result < 65536) }
 {
-    wide(bytes::u16_at(s, 6 + 4 * i))
+    wide(little::u16_at(s, 6 + 4 * i))
 }
 
 // 4: whether the contents do not fit the book.
@@ -100,15 +102,15 @@ fn judge_bodies(s: &[u8], n: u8, k: u8) -> Answer
         }
         let at = start(s, i);
         let name = name_of(s, at);
-        let low = bytes::u64_at(&name, 0);
-        let high = bytes::u64_at(&name, 8);
+        let low = little::u64_at(&name, 0);
+        let high = little::u64_at(&name, 8);
         let c = number_of(s, at, n, k, rule_check::taken(&names, i, low, high));
         if c != 0 {
             return refused(c, i as u8);
         }
         names[2 * i] = low;
         names[2 * i + 1] = high;
-        row[i] = bytes::u32_at(s, at + 4);
+        row[i] = little::u32_at(s, at + 4);
     }
     if table::row_cyclic(row, rule::count(n)) {
         return refused(10, 255);

@@ -5,13 +5,13 @@ use Prim.Native.Nat.{ℕ, ◌+◌, ◌*◌, ◌≤◌}
 use native.Mathlib.Nat.{le_refl, le_trans}
 use native.Mathlib.Omega.{arith}
 use lib.ListN.{length, get_or, take, drop, length-append}
-use Rattle.bytes.specs.Little.{byte_at}
-use Rattle.bytes.specs.Put.{put}
-use Rattle.bytes.proofs.PutLaws.{put_next}
-use Rattle.bytes.proofs.StandsLaws.{Stands, stands-left, stands-right, stands-append, part_stands}
-use Rattle.bytes.specs.EachByte.{Bytes}
-use Rattle.bytes.specs.Joined.{joined}
-use Rattle.bytes.proofs.JoinedLaws.{stands-joined, stands-each}
+use Rattle.little.specs.Little.{byte_at}
+use Rattle.little.specs.Put.{put}
+use Rattle.little.proofs.PutLaws.{put_next}
+use Rattle.little.proofs.StandsLaws.{Stands, stands-left, stands-right, stands-append, part_stands}
+use Rattle.little.specs.EachByte.{Bytes}
+use Rattle.little.specs.Joined.{joined}
+use Rattle.little.proofs.JoinedLaws.{stands-joined, stands-each}
 use Rattle.rule.specs.declared.Rule.{Rule}
 use Rattle.rule.specs.Empty.{no_test, no_assign}
 use Rattle.rule.specs.Fill.{upto}

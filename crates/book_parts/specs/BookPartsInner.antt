@@ -1,7 +1,7 @@
 -- What only contracts of inner functions of `book_parts` cite.
 use Rattle.std.specs.Prelude.{List, ◌++◌, ℕ, ◌≤◌, ◌<◌, get_or}
-use Rattle.bytes.specs.Bytes.{u16_bytes}
-use Rattle.bytes.specs.Joined.{joined}
+use Rattle.little.specs.Bytes.{u16_bytes}
+use Rattle.little.specs.Joined.{joined}
 use Rattle.rule.specs.declared.Rule.{Rule}
 use Rattle.rule.specs.Empty.{no_rule}
 use Rattle.rule.specs.RuleInner.{Counted}

@@ -1,7 +1,9 @@
 // The contents and the bodies of a table, written into a lent buffer.
+#![tactic(auto)]
+
 ghost use Rattle.std.specs.Prelude.{◌≡◌, ◌++◌, ◌+◌, ◌*◌, ◌≤◌, ◌<◌, length};
-ghost use Rattle.bytes.specs.Put.{put};
-ghost use Rattle.bytes.specs.Bytes.{u16_bytes};
+ghost use Rattle.little.specs.Put.{put};
+ghost use Rattle.little.specs.Bytes.{u16_bytes};
 ghost use Rattle.rule_write.specs.Pieces.{body_bytes};
 ghost use Rattle.rule.specs.RuleInner.{Counted};
 ghost use Rattle.table.specs.Memory.{table_from};
@@ -34,8 +36,8 @@ fn write_entry(out: &mut [u8], at: usize, start: usize, size: usize)
     requires { (start < 65536) × (size < 65536) × (at + 4 ≤ length out.old) }
     ensures { out.new ≡ put out.old at (u16_bytes start ++ u16_bytes size) }
 {
-    bytes::put_u16(out, at, start as u16);
-    bytes::put_u16(out, at + 2, size as u16);
+    little::put_u16(out, at, start as u16);
+    little::put_u16(out, at + 2, size as u16);
 }
 
 pub fn write_contents(out: &mut [u8], s: &[u8], n: usize)
@@ -60,9 +62,9 @@ fn write_body(out: &mut [u8], at: usize, s: &[u8], i: usize)
     let t = c.tests;
     let a = c.assigns;
     let m = c.letters;
-    bytes::put_part(out, at, s, from, 12 + 12 * t);
-    bytes::put_part(out, at + 12 + 12 * t, s, from + 108, 20 * a);
-    bytes::put_part(out, at + 12 + 12 * t + 20 * a, s, from + 268, m);
+    little::put_part(out, at, s, from, 12 + 12 * t);
+    little::put_part(out, at + 12 + 12 * t, s, from + 108, 20 * a);
+    little::put_part(out, at + 12 + 12 * t + 20 * a, s, from + 268, m);
 }
 
 pub fn write_bodies(out: &mut [u8], s: &[u8], n: usize)

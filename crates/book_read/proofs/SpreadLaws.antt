@@ -6,14 +6,14 @@ use native.Mathlib.Omega.{arith}
 use native.Mathlib.Nat.{one-mul}
 use lib.ListN.{length, get_or, take, drop, replicate, length-append, length-drop, length-replicate}
 use lib.Seq.{length-take-le}
-use Rattle.bytes.specs.Little.{byte_at}
-use Rattle.bytes.specs.EachByte.{Bytes}
-use Rattle.bytes.specs.Put.{put}
-use Rattle.bytes.proofs.PutLaws.{put_next}
-use Rattle.bytes.proofs.StandsLaws.{stands-left, part_stands}
-use Rattle.bytes.specs.Bytes.{u16_bytes, u32_bytes, u64_bytes, i64_bytes}
-use Rattle.bytes.specs.Joined.{joined}
-use Rattle.bytes.proofs.JoinedLaws.{joined-rest}
+use Rattle.little.specs.Little.{byte_at}
+use Rattle.little.specs.EachByte.{Bytes}
+use Rattle.little.specs.Put.{put}
+use Rattle.little.proofs.PutLaws.{put_next}
+use Rattle.little.proofs.StandsLaws.{stands-left, part_stands}
+use Rattle.little.specs.Bytes.{u16_bytes, u32_bytes, u64_bytes, i64_bytes}
+use Rattle.little.specs.Joined.{joined}
+use Rattle.little.proofs.JoinedLaws.{joined-rest}
 use Rattle.rule.specs.declared.Rule.{Rule}
 use Rattle.rule.specs.Empty.{no_test, no_assign}
 use Rattle.rule.specs.Fill.{upto}

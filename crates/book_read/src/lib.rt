@@ -1,6 +1,8 @@
 // Reads a book: judges it, and spreads its bytes into a lent table of 9,092 bytes.
+#![tactic(auto)]
+
 ghost use Rattle.std.specs.Prelude.{◌≡◌, ◌++◌, ◌+◌, ◌-◌, ◌*◌, ◌≤◌, length, take, drop, replicate};
-ghost use Rattle.bytes.specs.Put.{put};
+ghost use Rattle.little.specs.Put.{put};
 ghost use Rattle.rule_write.specs.RuleWriteInner.{slot_bytes};
 ghost use Rattle.table.specs.Memory.{table_bytes};
 ghost use Rattle.book_judge.specs.Read.{rule_in, table_in, read_of};
@@ -14,8 +16,8 @@ fn put_padded(out: &mut [u8], to: usize, s: &[u8], from: usize, n: usize, room: 
     requires { (n ≤ room) × (to + room ≤ length out.old) × (from + n ≤ length s.now) }
     ensures { out.new ≡ put out.old to (take n (drop from s.now) ++ replicate (room - n) 0) }
 {
-    bytes::put_part(out, to, s, from, n);
-    bytes::put_zeros(out, to + n, room - n);
+    little::put_part(out, to, s, from, n);
+    little::put_zeros(out, to + n, room - n);
 }
 
 // The slot of the body whose head is at `from`.
@@ -38,11 +40,11 @@ fn spread(s: &[u8], out: &mut [u8; 9092])
     ensures { out.new ≡ table_bytes (table_in s.now) }
 {
     let n = rule::count(s[1]);
-    bytes::put_4(out, 0, 0, s[1], s[2], 0);
+    little::put_4(out, 0, 0, s[1], s[2], 0);
     for i in 0..n {
         put_body(out, 4 + 284 * i, s, book_judge::start(s, i));
     }
-    bytes::put_zeros(out, 4 + 284 * n, 284 * (32 - n));
+    little::put_zeros(out, 4 + 284 * n, 284 * (32 - n));
 }
 
 // Reads a book into a table; a refused read leaves zeros.
@@ -51,7 +53,7 @@ pub fn read(book: &[u8], table: &mut [u8; 9092]) -> Answer
 {
     let a = book_judge::judge(book);
     if a.number != 0 {
-        bytes::put_zeros(table, 0, 9092);
+        little::put_zeros(table, 0, 9092);
         return a;
     }
     spread(book, table);

@@ -3,9 +3,9 @@ use mathlib.Core.Path.{◌≡◌, sym, ap, ◌∙◌}
 use mathlib.Core.List.{List}
 use Prim.Native.Nat.{ℕ, ◌≤◌}
 use lib.ListN.{length, take}
-use Rattle.bytes.specs.Put.{put}
-use Rattle.bytes.proofs.PutLaws.{put_front}
-use Rattle.bytes.specs.EachByte.{Bytes}
+use Rattle.little.specs.Put.{put}
+use Rattle.little.proofs.PutLaws.{put_front}
+use Rattle.little.specs.EachByte.{Bytes}
 use Rattle.table.proofs.SoundLaws.{sound-by}
 use Rattle.table.specs.Table.{Table}
 use Rattle.table.specs.Memory.{HeldTable}

@@ -9,13 +9,13 @@ use lib.Dec.{eqb}
 use lib.ListN.{length, get_or, length-append}
 use borrow.Author.Tests.{eqb-true, not-false}
 use Rattle.mask.proofs.SearchLaws.{or_false_both}
-use Rattle.bytes.specs.Little.{byte_at}
-use Rattle.bytes.specs.Bytes.{u16_bytes}
-use Rattle.bytes.proofs.BytesLaws.{length_u16}
-use Rattle.bytes.proofs.StandsLaws.{Stands, stands_4, stands_then, stands-whole}
-use Rattle.bytes.specs.EachByte.{Bytes}
-use Rattle.bytes.proofs.BytesBackLaws.{u16_stands}
-use Rattle.bytes.proofs.JoinedLaws.{stands-joined}
+use Rattle.little.specs.Little.{byte_at}
+use Rattle.little.specs.Bytes.{u16_bytes}
+use Rattle.little.proofs.BytesLaws.{length_u16}
+use Rattle.little.proofs.StandsLaws.{Stands, stands_4, stands_then, stands-whole}
+use Rattle.little.specs.EachByte.{Bytes}
+use Rattle.little.proofs.BytesBackLaws.{u16_stands}
+use Rattle.little.proofs.JoinedLaws.{stands-joined}
 use Rattle.rule.specs.declared.Rule.{Rule}
 use Rattle.rule.specs.Empty.{no_rule}
 use Rattle.rule.proofs.FillLaws.{get_or-filled}

@@ -11,12 +11,12 @@ use borrow.Author.Tests.{le-ltb, eq-eqb}
 use Rattle.mask.proofs.SearchLaws.{some-none, least-none}
 use Rattle.mask.proofs.FirstLaws.{passed_first}
 use Rattle.graph.specs.Graph.{cyclic}
-use Rattle.bytes.specs.Little.{byte_at}
-use Rattle.bytes.specs.Bytes.{u16_bytes}
-use Rattle.bytes.proofs.BytesLaws.{length_u16}
-use Rattle.bytes.proofs.StandsLaws.{Stands, stands_self, stands-left, stands-right, stands_after}
-use Rattle.bytes.proofs.BytesBackLaws.{u16_read}
-use Rattle.bytes.proofs.JoinedLaws.{stands-each}
+use Rattle.little.specs.Little.{byte_at}
+use Rattle.little.specs.Bytes.{u16_bytes}
+use Rattle.little.proofs.BytesLaws.{length_u16}
+use Rattle.little.proofs.StandsLaws.{Stands, stands_self, stands-left, stands-right, stands_after}
+use Rattle.little.proofs.BytesBackLaws.{u16_read}
+use Rattle.little.proofs.JoinedLaws.{stands-each}
 use Rattle.rule.specs.declared.Rule.{Rule}
 use Rattle.rule.specs.Empty.{no_rule}
 use Rattle.rule.specs.Fill.{filled}

@@ -8,8 +8,8 @@ use native.Mathlib.Omega.{arith}
 use lib.ListN.{length, length-append}
 use borrow.Author.Tests.{lt-ltb, le-ltb, ne_eqb}
 use Rattle.mask.proofs.SearchLaws.{lt-or_ge}
-use Rattle.bytes.specs.Put.{put}
-use Rattle.bytes.proofs.PutLaws.{put_next}
+use Rattle.little.specs.Put.{put}
+use Rattle.little.proofs.PutLaws.{put_next}
 use Rattle.table.specs.Table.{Table}
 use Rattle.table.specs.Check.{check_of}
 use Rattle.table.proofs.SoundLaws.{sound-by}

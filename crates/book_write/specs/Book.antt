@@ -1,7 +1,7 @@
 -- The bytes of a table: "The contents come first, the bodies after."
 use Rattle.std.specs.Prelude.{List, [], ◌∷◌, ◌++◌, ℕ}
-use Rattle.bytes.specs.Bytes.{u16_bytes}
-use Rattle.bytes.specs.Joined.{joined}
+use Rattle.little.specs.Bytes.{u16_bytes}
+use Rattle.little.specs.Joined.{joined}
 use Rattle.rule_write.specs.Pieces.{body_bytes}
 use Rattle.table.specs.Table.{Table, rule_at}
 use Rattle.table.specs.BodyStarts.{body_size, start_at}

@@ -1,6 +1,6 @@
 -- What writing a table into a buffer gives and leaves there, in the paper's order, for every table and every buffer.
 use Rattle.std.specs.Prelude.{cond, List, ℕ, ltb, length}
-use Rattle.bytes.specs.Put.{put}
+use Rattle.little.specs.Put.{put}
 use Rattle.table.specs.Table.{Table}
 use Rattle.table.specs.Check.{check_of, checked}
 use Rattle.book_write.specs.declared.Written.{Written}

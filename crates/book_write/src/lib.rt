@@ -1,4 +1,6 @@
 // Writes a table, where its bytes lie, as a book into a lent buffer.
+#![tactic(auto)]
+
 ghost use Rattle.std.specs.Prelude.{◌≡◌};
 ghost use Rattle.table.specs.Memory.{table_from};
 ghost use Rattle.book_write.specs.Write.{write_of, size_of};
@@ -49,7 +51,7 @@ pub fn write(table: &[u8; 9092], out: &mut [u8]) -> Written
             length: 0,
         };
     }
-    bytes::put_4(out, 0, 1, table[1], table[2], 0);
+    little::put_4(out, 0, 1, table[1], table[2], 0);
     book_parts::write_contents(out, table, n);
     book_parts::write_bodies(out, table, n);
     Written {

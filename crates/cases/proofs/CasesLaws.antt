@@ -4,7 +4,7 @@ use mathlib.Core.List.{[], ◌∷◌}
 use Rattle.mask.specs.Search as Search
 use Rattle.mask.specs.Mask as Mask
 use Rattle.graph.specs.Graph as Graph
-use Rattle.bytes.specs.Joined as Joined
+use Rattle.little.specs.Joined as Joined
 use Rattle.rule.specs.Numbers as Numbers
 use Rattle.rule.specs.Uses as Uses
 use Rattle.table.specs.Table as Table

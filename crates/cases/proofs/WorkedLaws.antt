@@ -7,7 +7,7 @@ use lib.ListN.{replicate}
 use Rattle.mask.specs.Search as Search
 use Rattle.mask.specs.Mask as Mask
 use Rattle.graph.specs.Graph as Graph
-use Rattle.bytes.specs.Joined as Joined
+use Rattle.little.specs.Joined as Joined
 use Rattle.rule.specs.Numbers as Numbers
 use Rattle.table.specs.Table as Table
 use Rattle.table.specs.Check as Check

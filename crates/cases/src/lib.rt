@@ -1,1 +1,2 @@
 // The treasurer's cases: one table and one claim, in specs/.
+#![tactic(auto)]

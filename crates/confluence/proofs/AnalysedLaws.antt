@@ -118,7 +118,7 @@ module _ (t : Table) (sound : Sound t) (masks : Precedes32 t) where
         has₂ = d.has_other;
         closed₁ = λ a r b la lr lb ha m g hb. d.closed-one a r b ha m (down r b g) hb;
         closed₂ = λ a r b la lr lb ha m g hb. d.closed-other a r b ha m (down r b g) hb;
-        grown₁ = λ r lr h ne. let f = d.from_one r h ne in (f.by, d.below_one f.by f.in-set, f.in-set, f.may);
-        grown₂ = λ r lr h ne. let f = d.from-other r h ne in (f.by, d.below_other f.by f.in-set, f.in-set, f.may);
+        grown₁ = λ r lr h ne. let f = d.from_one r h ne in (f.by, d.below_one f.by f.in_set, f.in_set, f.may);
+        grown₂ = λ r lr h ne. let f = d.from-other r h ne in (f.by, d.below_other f.by f.in_set, f.in_set, f.may);
         commuting = λ a b la lb ha hb. d.commute a b ha hb;
       }

@@ -60,19 +60,19 @@ night-masks = record { small = go }
 -- "starting with 0, cell 2 ends 9"
 pub nine : Permitted night_table night_evening (0 ∷ 2 ∷ 1 ∷ []) × (after night_table night_evening (0 ∷ 2 ∷ 1 ∷ []) ≡ night_state (pos 5) (pos 6) (pos 9) 0 0)
 nine = (
-  next (record { is = facts.night-0 }) (2 ∷ 1 ∷ [])
-      (next (record { is = facts.night-02 }) (1 ∷ []) (next (record { is = facts.night-021 }) [] tt)),
-  goes (record { is = facts.night-0 }) (2 ∷ 1 ∷ []) ∙ goes (record { is = facts.night-02 }) (1 ∷ [])
-      ∙ goes (record { is = facts.night-021 }) [],
+  next (record { is = facts.night_0 }) (2 ∷ 1 ∷ [])
+      (next (record { is = facts.night_02 }) (1 ∷ []) (next (record { is = facts.night_021 }) [] tt)),
+  goes (record { is = facts.night_0 }) (2 ∷ 1 ∷ []) ∙ goes (record { is = facts.night_02 }) (1 ∷ [])
+      ∙ goes (record { is = facts.night_021 }) [],
 )
 
 -- "starting with 1, it ends 7"
 pub seven : Permitted night_table night_evening (1 ∷ 0 ∷ 2 ∷ []) × (after night_table night_evening (1 ∷ 0 ∷ 2 ∷ []) ≡ night_state (pos 5) (pos 6) (pos 7) 0 0)
 seven = (
-  next (record { is = facts.night-1 }) (0 ∷ 2 ∷ [])
-      (next (record { is = facts.night-10 }) (2 ∷ []) (next (record { is = facts.night-102 }) [] tt)),
-  goes (record { is = facts.night-1 }) (0 ∷ 2 ∷ []) ∙ goes (record { is = facts.night-10 }) (2 ∷ [])
-      ∙ goes (record { is = facts.night-102 }) [],
+  next (record { is = facts.night_1 }) (0 ∷ 2 ∷ [])
+      (next (record { is = facts.night_10 }) (2 ∷ []) (next (record { is = facts.night_102 }) [] tt)),
+  goes (record { is = facts.night_1 }) (0 ∷ 2 ∷ []) ∙ goes (record { is = facts.night_10 }) (2 ∷ [])
+      ∙ goes (record { is = facts.night_102 }) [],
 )
 
 pub night-differs : OneEnd night_table night_evening → ⊥
@@ -157,9 +157,9 @@ twins-end (r ∷ rs) p q = go (can twins_posted r p.0).0
 
     go : (r ≡ 0) ⊎ (r ≡ 1) → after twins twins_posted (r ∷ rs) ≡ other 0
     go (inl z) =
-        from (other 2) (ap (step_of twins twins_posted) z ∙ facts.twin-0) (last 2 1 (λ n. omega arith) facts.twin-01 only_1)
+        from (other 2) (ap (step_of twins twins_posted) z ∙ facts.twin_0) (last 2 1 (λ n. omega arith) facts.twin_01 only_1)
     go (inr z) =
-        from (other 1) (ap (step_of twins twins_posted) z ∙ facts.twin-1) (last 1 0 (λ n. omega arith) facts.twin-10 only_0)
+        from (other 1) (ap (step_of twins twins_posted) z ∙ facts.twin_1) (last 1 0 (λ n. omega arith) facts.twin_10 only_0)
 
 pub twins-agree : OneEnd twins twins_posted
 twins-agree rs us a b x y =

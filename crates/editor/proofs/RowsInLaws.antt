@@ -4,7 +4,7 @@ use mathlib.Core.List.{List}
 use Prim.Native.Nat.{ℕ, ◌+◌, ◌*◌, ◌/◌}
 use native.Mathlib.Omega.{arith}
 use lib.ListN.{length, get_or}
-use Rattle.bytes.specs.Little.{u32_at}
+use Rattle.little.specs.Little.{u32_at}
 use Rattle.rule.specs.Fill.{filled}
 use Rattle.rule.proofs.FillLaws.{length-upto, get_or-upto}
 use Rattle.analysis_pairs.specs.AnalysisPairsInner.{masks_in}

@@ -1,6 +1,6 @@
 -- A row of records as bytes: 16 for each, its four masks one after another.
 use Rattle.std.specs.Prelude.{List, ℕ, ◌+◌, ◌*◌, ◌/◌, length}
-use Rattle.bytes.specs.Little.{u32_at}
+use Rattle.little.specs.Little.{u32_at}
 use Rattle.rule.specs.Fill.{upto}
 use Rattle.editor.specs.declared.Record.{Record}
 

@@ -1,4 +1,6 @@
 // The editor's row: a lent slice of four-mask records is copied into arrays, checked, and analysed as a table's masks are.
+#![tactic(auto)]
+
 ghost use Rattle.std.specs.Prelude.{◌≡◌};
 ghost use Rattle.analysis_pairs.specs.AnalysisPairsInner.{masks_in};
 ghost use Rattle.editor.specs.Rows.{row_masks, RowsSay};

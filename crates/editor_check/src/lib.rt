@@ -1,4 +1,6 @@
 // The numbers 3, 6 and 10 of a row of n records: they ask for its precedes masks alone.
+#![tactic(auto)]
+
 ghost use Rattle.std.specs.Prelude.{◌≤◌};
 ghost use Rattle.editor_check.specs.EditorCheckInner.{only_precedes, FirstBeyond, RowChecked};
 

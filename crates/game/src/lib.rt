@@ -1,4 +1,6 @@
 // The game loop: a single run state, lent to be changed on the spot.
+#![tactic(auto)]
+
 ghost use Rattle.std.specs.Prelude.{◌≡◌};
 ghost use Rattle.table.specs.Memory.{table_from};
 ghost use Rattle.machine_spec.specs.Step.{step_of, post_of};

@@ -1,4 +1,6 @@
 // Graphs of at most 32 rules: mask r of a row is the set of the rules that r leads straight to.
+#![tactic(auto)]
+
 ghost use Rattle.std.specs.Prelude.{◌≡◌, ℕ, ◌<◌, ◌≤◌, length, get_or};
 ghost use Rattle.mask.specs.Mask.{has};
 ghost use Rattle.graph.specs.Graph.{leads};

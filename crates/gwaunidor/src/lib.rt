@@ -1,4 +1,6 @@
 // The calls for C and Rust; include/gwaunidor.h describes them for callers. Each hands on to its crate, where its edits are cheap.
+#![tactic(auto)]
+
 ghost use Rattle.std.specs.Prelude.{◌≡◌};
 ghost use Rattle.table.specs.Check.{check_of};
 ghost use Rattle.table.specs.Memory.{table_from, table_bytes};

@@ -1,4 +1,6 @@
 // Books and tables at the border: what the calls for C and Rust do.
+#![tactic(auto)]
+
 ghost use Rattle.std.specs.Prelude.{◌≡◌};
 ghost use Rattle.table.specs.Check.{check_of};
 ghost use Rattle.table.specs.Memory.{table_from, table_bytes};

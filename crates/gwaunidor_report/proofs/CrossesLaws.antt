@@ -6,7 +6,7 @@ use Prim.Native.Nat.{ℕ, ◌^◌, ◌≤◌, ◌<◌}
 use native.Mathlib.Omega.{arith}
 use lib.ListN.{length, get_or-eq_default}
 use Rattle.mask.proofs.SearchLaws.{lt-or_ge}
-use Rattle.bytes.specs.EachByte.{Bytes}
+use Rattle.little.specs.EachByte.{Bytes}
 use Rattle.rule.specs.declared.Rule.{Rule}
 use Rattle.rule.specs.Empty.{no_rule}
 use Rattle.table.specs.Table.{Table, rule_at}

@@ -3,7 +3,7 @@ use mathlib.Core.Path.{◌≡◌, refl, ap, ◌∙◌}
 use mathlib.Core.List.{List, ◌∷◌}
 use Prim.Native.Nat.{ℕ}
 use lib.ListN.{replicate}
-use Rattle.bytes.specs.Bytes.{u16_bytes, u32_bytes}
+use Rattle.little.specs.Bytes.{u16_bytes, u32_bytes}
 use Rattle.table.specs.Table.{Table}
 use Rattle.table.specs.Check.{check_of}
 use Rattle.analysis.specs.Says.{ReportSays, refused_report}

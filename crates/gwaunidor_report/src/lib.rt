@@ -1,4 +1,6 @@
 // The analysis at the border: what the calls for C and Rust do.
+#![tactic(auto)]
+
 ghost use Rattle.table.specs.Memory.{table_from};
 ghost use Rattle.analysis.specs.Says.{ReportSays, BoundSays};
 ghost use Rattle.report_lines.specs.Lines.{LinesSay};

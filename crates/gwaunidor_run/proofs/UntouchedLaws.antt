@@ -5,9 +5,9 @@ use mathlib.Core.List.{List}
 use Prim.Native.Nat.{ℕ}
 use lib.IntN.{ℤ}
 use lib.ListN.{length, replicate}
-use Rattle.bytes.specs.Bytes.{u16_bytes, u32_bytes, u64_bytes, i64_bytes}
-use Rattle.bytes.specs.Joined.{joined}
-use Rattle.bytes.specs.EachByte.{Bytes}
+use Rattle.little.specs.Bytes.{u16_bytes, u32_bytes, u64_bytes, i64_bytes}
+use Rattle.little.specs.Joined.{joined}
+use Rattle.little.specs.EachByte.{Bytes}
 use Rattle.table.specs.Table.{Table}
 use Rattle.machine_spec.specs.State.{zeros}
 use Rattle.machine_spec.specs.Step.{step_of, post_of, fresh_of}

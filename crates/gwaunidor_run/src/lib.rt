@@ -1,4 +1,6 @@
 // The machine at the border: what the calls for C and Rust do.
+#![tactic(auto)]
+
 ghost use Rattle.std.specs.Prelude.{◌≡◌};
 ghost use Rattle.table.specs.Memory.{table_from};
 ghost use Rattle.machine_spec.specs.Step.{fresh_of, step_of, post_of};

@@ -1,4 +1,6 @@
 // How an answer crosses the border.
+#![tactic(auto)]
+
 ghost use Rattle.std.specs.Prelude.{◌≡◌};
 ghost use Rattle.layout_code.specs.Code.{code_of};
 

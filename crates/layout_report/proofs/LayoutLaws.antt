@@ -1,7 +1,7 @@
 -- How many bytes a report has: 16 and its marks.
 use mathlib.Core.Path.{◌≡◌}
 use lib.ListN.{length, length-append}
-use Rattle.bytes.proofs.BytesLaws.{length_u16, length_u32}
+use Rattle.little.proofs.BytesLaws.{length_u16, length_u32}
 use Rattle.analysis_masks.specs.declared.Report.{Report}
 use Rattle.layout_report.specs.Layout.{summary_bytes, report_bytes}
 

@@ -1,6 +1,8 @@
 // A report as the 512 bytes that cross the border.
+#![tactic(auto)]
+
 ghost use Rattle.std.specs.Prelude.{◌≡◌, cond, ◌≤◌, length};
-ghost use Rattle.bytes.specs.Put.{put};
+ghost use Rattle.little.specs.Put.{put};
 ghost use Rattle.layout_report.specs.Layout.{summary_bytes, report_bytes};
 
 use analysis_masks::Report;
@@ -19,11 +21,11 @@ fn put_head(out: &mut [u8], r: Report)
     requires { 16 ≤ length out.old }
     ensures { out.new ≡ put out.old 0 (summary_bytes r) }
 {
-    bytes::put_4(out, 0, r.number, r.place, flag(r.cleared), 0);
-    bytes::put_u32(out, 4, r.faulty);
-    bytes::put_u16(out, 8, r.failing);
-    bytes::put_4(out, 10, r.first, r.second, r.culprit, r.other);
-    bytes::put_u16(out, 14, 0);
+    little::put_4(out, 0, r.number, r.place, flag(r.cleared), 0);
+    little::put_u32(out, 4, r.faulty);
+    little::put_u16(out, 8, r.failing);
+    little::put_4(out, 10, r.first, r.second, r.culprit, r.other);
+    little::put_u16(out, 14, 0);
 }
 
 pub fn store_report(r: Report, out: &mut [u8; 512])
@@ -31,5 +33,5 @@ pub fn store_report(r: Report, out: &mut [u8; 512])
 {
     let marks = r.marks;
     put_head(out, r);
-    bytes::put_bytes(out, 16, &marks);
+    little::put_bytes(out, 16, &marks);
 }

@@ -8,14 +8,14 @@ use lib.IntN.{ℤ, pos}
 use lib.ListN.{length, length-append}
 use mir.Syntax.{w64}
 use mir.Val.{SFits}
-use Rattle.bytes.specs.Little.{i64_at}
-use Rattle.bytes.specs.Bytes.{u32_bytes, i64_bytes}
-use Rattle.bytes.proofs.BytesLaws.{length_u32, length_i64}
-use Rattle.bytes.proofs.StandsLaws.{Stands, stands_self, stands-left, stands_after, stands_then, stands-whole}
-use Rattle.bytes.specs.EachByte.{Bytes}
-use Rattle.bytes.proofs.BytesBackLaws.{u32_read, i64_read, u32_stands, i64_stands}
-use Rattle.bytes.specs.Joined.{joined}
-use Rattle.bytes.proofs.JoinedLaws.{length-joined, stands-joined, stands-each}
+use Rattle.little.specs.Little.{i64_at}
+use Rattle.little.specs.Bytes.{u32_bytes, i64_bytes}
+use Rattle.little.proofs.BytesLaws.{length_u32, length_i64}
+use Rattle.little.proofs.StandsLaws.{Stands, stands_self, stands-left, stands_after, stands_then, stands-whole}
+use Rattle.little.specs.EachByte.{Bytes}
+use Rattle.little.proofs.BytesBackLaws.{u32_read, i64_read, u32_stands, i64_stands}
+use Rattle.little.specs.Joined.{joined}
+use Rattle.little.proofs.JoinedLaws.{length-joined, stands-joined, stands-each}
 use Rattle.rule.proofs.FillLaws.{get_or-filled}
 use Rattle.rule_write.proofs.RowsBytesLaws.{slots_are}
 use Rattle.rule_sums.specs.Sums.{at}

@@ -1,8 +1,8 @@
 -- A state as 264 bytes: "32 cells of 8, the waiting mask, the fault marks".
 use Rattle.std.specs.Prelude.{List, ◌++◌, ℕ, ◌*◌, ℤ, pos}
-use Rattle.bytes.specs.Little.{u32_at, i64_at}
-use Rattle.bytes.specs.Bytes.{u32_bytes, i64_bytes}
-use Rattle.bytes.specs.Joined.{joined}
+use Rattle.little.specs.Little.{u32_at, i64_at}
+use Rattle.little.specs.Bytes.{u32_bytes, i64_bytes}
+use Rattle.little.specs.Joined.{joined}
 use Rattle.rule.specs.Fill.{filled}
 use Rattle.rule_sums.specs.Sums.{at}
 use Rattle.machine_spec.specs.declared.State.{State}

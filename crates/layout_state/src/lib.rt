@@ -1,6 +1,8 @@
 // A state as the 264 bytes that cross the border, and amounts as 256.
+#![tactic(auto)]
+
 ghost use Rattle.std.specs.Prelude.{◌≡◌, ◌≤◌, length};
-ghost use Rattle.bytes.specs.Put.{put};
+ghost use Rattle.little.specs.Put.{put};
 ghost use Rattle.layout_state.specs.States.{cells_from, cells_bytes, state_from, state_bytes};
 
 use machine_spec::State;
@@ -12,7 +14,7 @@ pub fn load_cells(s: &[u8]) -> [i64; 32]
 {
     let mut cells = [0i64; 32];
     for i in 0..32 {
-        cells[i] = bytes::i64_at(s, 8 * i);
+        cells[i] = little::i64_at(s, 8 * i);
     }
     cells
 }
@@ -23,8 +25,8 @@ pub fn load_state(s: &[u8; 264]) -> State
     let cells = load_cells(s);
     State {
         cells: cells,
-        waiting: bytes::u32_at(s, 256),
-        faults: bytes::u32_at(s, 260),
+        waiting: little::u32_at(s, 256),
+        faults: little::u32_at(s, 260),
     }
 }
 
@@ -33,7 +35,7 @@ fn put_cells(out: &mut [u8], cells: [i64; 32])
     ensures { out.new ≡ put out.old 0 (cells_bytes cells 32) }
 {
     for i in 0..32 {
-        bytes::put_i64(out, 8 * i, cells[i]);
+        little::put_i64(out, 8 * i, cells[i]);
     }
 }
 
@@ -42,6 +44,6 @@ pub fn store_state(s: State, out: &mut [u8; 264])
 {
     let cells = s.cells;
     put_cells(out, cells);
-    bytes::put_u32(out, 256, s.waiting);
-    bytes::put_u32(out, 260, s.faults);
+    little::put_u32(out, 256, s.waiting);
+    little::put_u32(out, 260, s.faults);
 }

@@ -1,7 +1,9 @@
 // The machine: states by value, and the paper's step, posting and run on a table that is lent as its 9,092 bytes.
+#![tactic(auto)]
+
 ghost use Rattle.std.specs.Prelude.{◌≡◌};
 ghost use Rattle.mask.specs.First.{first_of};
-ghost use Rattle.bytes.specs.Little.{byte_at};
+ghost use Rattle.little.specs.Little.{byte_at};
 ghost use Rattle.table.specs.Memory.{table_from};
 ghost use Rattle.table.specs.TableInner.{Sizes};
 ghost use Rattle.machine_spec.specs.State.{still};

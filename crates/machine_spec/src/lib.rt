@@ -1,4 +1,6 @@
 // A state by value, and what comes back from a call on one. What a step, a posting and a run do is said in specs/.
+#![tactic(auto)]
+
 #[derive(Drop)]
 pub struct State {
     pub cells: [i64; 32],

@@ -21,7 +21,7 @@ use Rattle.rule.proofs.FillLaws.{get_or-filled, get_or-left}
 use Rattle.rule.specs.Uses.{watches}
 use Rattle.table.specs.Table.{Table, rule_at}
 use Rattle.table.specs.TableInner.{watches_of, Sizes, slot_start, rule_from}
-use Rattle.bytes.specs.Little.{byte_at}
+use Rattle.little.specs.Little.{byte_at}
 use Rattle.table.specs.Check.{Sound}
 use Rattle.table.proofs.SoundLaws.{parts}
 use Rattle.table.specs.Memory.{table_from}

@@ -1,4 +1,6 @@
 // Whether a state fits a table, and the paper's step on one rule, over lent cells.
+#![tactic(auto)]
+
 ghost use Rattle.std.specs.Prelude.{◌≡◌, ◌||◌, ◌≤◌, ◌<◌, get_or};
 ghost use Rattle.mask.specs.Search.{some};
 ghost use Rattle.mask.specs.Mask.{has, meet, mask_of};

@@ -1,4 +1,6 @@
 // Sets of numbers below 32, as masks: bit i of a u32 says whether i is a member.
+#![tactic(auto)]
+
 ghost use Rattle.std.specs.Prelude.{◌≡◌, ◌||◌, ◌&&◌, not, ℕ, ◌^◌, ◌<◌, ◌≤◌, get_or, eqb, ltb};
 ghost use Rattle.mask.specs.Search.{some};
 ghost use Rattle.mask.specs.Mask.{has, meet, beyond};

@@ -2,7 +2,7 @@
 -- act in either order, and each cell is changed by at most one of the two.
 use Rattle.std.specs.Prelude.{◌≡◌, ◌≢◌, true, ℕ, ◌<◌}
 use Rattle.std.proofs.Common.{sym, ◌∙◌, inl, inr}
-use Rattle.std.proofs.Math.Logic.{Ne·symm}
+use Rattle.std.proofs.Math.Logic.{Ne-symm}
 use Rattle.std.proofs.Math.Bool.{So, Bool-discrete}
 use Rattle.orders.specs.Cells.{Cells, EqualOn}
 use Rattle.orders.specs.Kept.{OneOf}
@@ -29,31 +29,31 @@ module _ (k : ℕ) (B : Bodies k) (F : BodyFacts k B) (N : Analysis k B) where
   commuting_flip r s h =
       record {
         r_below = h.s-below;
-        s-below = h.r-below;
-        differ = Ne·symm h.differ;
-        commutes = commute_symmetric r s h.r-below h.s-below h.commutes;
+        s-below = h.r_below;
+        differ = Ne-symm h.differ;
+        commutes = commute_symmetric r s h.r_below h.s-below h.commutes;
       }
 
   -- s reads the same before and after r
   pub reads-free : (r s : ℕ) → Commuting r s → (c : Cells) → EqualOn k (reads s) (body r c) c
   reads-free r s h c x lx i =
-      unwritten r c x h.r-below lx
-      (λ w. commute-reads r s x h.r-below h.s-below lx h.differ h.commutes w i)
+      unwritten r c x h.r_below lx
+      (λ w. commute-reads r s x h.r_below h.s-below lx h.differ h.commutes w i)
 
   -- r does not change the cells that s watches
   pub watches-free : (r s : ℕ) → Commuting r s → (c : Cells) → EqualOn k (watches s) (body r c) c
   watches-free r s h c =
-      quiet-on k B F N r s c h.r-below h.s-below
-      (commute-quiet r s h.r-below h.s-below h.differ h.commutes)
+      quiet-on k B F N r s c h.r_below h.s-below
+      (commute-quiet r s h.r_below h.s-below h.differ h.commutes)
 
   -- at a cell that r does not write, s does the same before and after r
   past : (r s : ℕ) → Commuting r s → (c : Cells) (x : ℕ) → x < k → (So (writes r x) → ⊥)
       → body s (body r c) x ≡ body s c x
   past r s h c x lx nw =
-      local s (body r c) c x h.s-below lx (reads-free r s h c) (unwritten r c x h.r-below lx nw)
+      local s (body r c) c x h.s-below lx (reads-free r s h c) (unwritten r c x h.r_below lx nw)
 
   writes_apart : (r s : ℕ) → Commuting r s → (x : ℕ) → x < k → So (writes r x) → So (writes s x) → ⊥
-  writes_apart r s h x lx = commute-writes r s x h.r-below h.s-below lx h.differ h.commutes
+  writes_apart r s h x lx = commute-writes r s x h.r_below h.s-below lx h.differ h.commutes
 
   pub cells-swap : (r s : ℕ) → Commuting r s → (c : Cells) (x : ℕ) → x < k
       → body r (body s c) x ≡ body s (body r c) x
@@ -63,7 +63,7 @@ module _ (k : ℕ) (B : Bodies k) (F : BodyFacts k B) (N : Analysis k B) where
       go (yes w) =
           let nw = writes_apart r s h x lx w in
           past s r (commuting_flip r s h) c x lx nw ∙ sym (unwritten s (body r c) x h.s-below lx nw)
-      go (no nw) = unwritten r (body s c) x h.r-below lx nw ∙ sym (past r s h c x lx nw)
+      go (no nw) = unwritten r (body s c) x h.r_below lx nw ∙ sym (past r s h c x lx nw)
 
   -- each cell is changed by at most one of the two
   pub by_one : (r s : ℕ) → Commuting r s → (c : Cells) (x : ℕ) → x < k
@@ -74,4 +74,4 @@ module _ (k : ℕ) (B : Bodies k) (F : BodyFacts k B) (N : Analysis k B) where
       go (yes w) =
           let nw = writes_apart r s h x lx w in
           inr (unwritten s c x h.s-below lx nw, past s r (commuting_flip r s h) c x lx nw)
-      go (no nw) = inl (unwritten r c x h.r-below lx nw, unwritten r (body s c) x h.r-below lx nw)
+      go (no nw) = inl (unwritten r c x h.r_below lx nw, unwritten r (body s c) x h.r_below lx nw)

@@ -99,7 +99,7 @@ module _ (k : ℕ) (E : Memory k) (B : Bodies k) (F : BodyFacts k B) (N : Analys
     mark-after : (x y : ℕ) → Commuting k B F N x y
         → mark x (body y c) ((step k E B y S).marks x) ≡ mark x c (S.marks x)
     mark-after x y g =
-        F.mark-local x (body y c) c ((step k E B y S).marks x) g.r-below
+        F.mark-local x (body y c) c ((step k E B y S).marks x) g.r_below
         (reads-free k B F N y x (commuting_flip k B F N x y g) c)
         ∙ ap (mark x c) (put_other S.marks y (mark y c (S.marks y)) x g.differ)
 

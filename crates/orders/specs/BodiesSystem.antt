@@ -2,7 +2,7 @@
 -- analysis.
 use Rattle.std.specs.Prelude.{◌≡◌, refl, ◌⊎◌, ◌≢◌, Bool, true, ℕ, ◌<◌}
 use Rattle.std.proofs.Common.{sym, ◌∙◌, ap, subst, inl, inr}
-use Rattle.std.proofs.Math.Logic.{Ne·symm, Equivalence}
+use Rattle.std.proofs.Math.Logic.{Ne-symm, Equivalence}
 use Rattle.std.proofs.Math.Bool.{So, Bool-discrete}
 use Rattle.std.proofs.Math.Decide.{ℕ_discrete}
 use Rattle.orders.specs.Overwritten.{put, put_same, put_other}
@@ -87,7 +87,7 @@ module _ (k : ℕ) (E : Memory k) (B : Bodies k) where
       still : (r s : ℕ) (S : State k E B) → r < n → s < n → r ≢ s → (So (may_trigger r s) → ⊥)
           → alike (watches s) ((step k E B r S).kept s) (S.kept s)
       still r s S lr ls ne t =
-          rw (kept-other k E B r s S (Ne·symm ne))
+          rw (kept-other k E B r s S (Ne-symm ne))
           (moved-still (watches s) (S.kept s) S.cells (body r S.cells)
           (quiet-on k B F N r s S.cells lr ls t))
 
@@ -119,7 +119,7 @@ module _ (k : ℕ) (E : Memory k) (B : Bodies k) where
               absurd (rest_sleeps (watches s) c w')
           go (no t) (no e) =
               let q = quiet-on k B F N r s c lr ls t in
-              let ne : r ≢ s = Ne·symm e in
+              let ne : r ≢ s = Ne-symm e in
               let m = still r s S lr ls ne t in
               inl (ne, wakeful-alike (watches s) ((step k E B r S).kept s) (S.kept s) (body r c) c m q w)
 
@@ -147,7 +147,7 @@ module _ (k : ℕ) (E : Memory k) (B : Bodies k) where
                 (λ x lx i. q.cells_same x lx) w;
             same_step = λ S T q r l w. step_same r S T l q;
             weighs = N.weighs;
-            commute_symmetric = N.commute-symmetric;
+            commute_symmetric = N.commute_symmetric;
             commute-quiet = commuting-quiet;
             keeps = λ r s S lr ls w ne t x. step_keeps r s S lr ls ne t x;
             wakes = λ r s S lr ls w x. step-wakes r s S lr ls x;

@@ -48,10 +48,10 @@ module _ (k : ℕ) (A : Actions k) (𝓡 : Runner) (C : Concrete k A 𝓡) where
   pub priorities : Priorities k (action_bodies k A)
   priorities =
       record {
-        irreflexive = λ r l b. 𝓡.goesBefore-irreflexive r (down r l) (before-down r r l l b);
+        irreflexive = λ r l b. 𝓡.goes_before-irreflexive r (down r l) (before-down r r l l b);
         transitive = λ r s t lr ls lt a b.
             sym (goes_before-is r t (down r lr) (down t lt))
-            ∙ 𝓡.goesBefore-transitive r s t (down r lr) (down s ls) (down t lt)
+            ∙ 𝓡.goes_before-transitive r s t (down r lr) (down s ls) (down t lt)
             (before-down r s lr ls a) (before-down s t ls lt b);
       }
 

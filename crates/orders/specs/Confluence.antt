@@ -89,8 +89,8 @@ module _ (𝓢 : System) where
           (step i S, step i S, no_step, no_step, same-is.refl (step i S))
       go (no ne) =
           let J = pair_condition⇒joined 𝓢 i j hi.below hj.below (pairs i j S hi hj ne) S hi hj in
-          let by-i = two-runs⇒star runner J.u (j ∷ J.v) (step i S) J.runs-u.1 J.then-v in
-          let by-j = two-runs⇒star runner J.v (i ∷ J.u) (step j S) J.runs-v.1 J.then-u in
+          let by-i = two-runs⇒star runner J.u (j ∷ J.v) (step i S) J.runs-u.1 J.then_v in
+          let by-j = two-runs⇒star runner J.v (i ∷ J.u) (step j S) J.runs-v.1 J.then_u in
           (_, _, by-i, by-j, J.meet)
 
   pub pairs⇒locally_confluent : PairsTogether 𝓢 → LocallyConfluent (EligibleStep runner) same

@@ -3,7 +3,7 @@
 use Rattle.std.specs.Prelude.{◌≡◌, refl, ◌⊎◌, Bool, true, false, List, [], ◌∷◌, ◌++◌}
 use Rattle.std.proofs.Common.{sym, subst, inl, inr, ⊎_elim, arith}
 use Rattle.std.proofs.Math.Path.{ap}
-use Rattle.std.proofs.Math.Logic.{Dec·and}
+use Rattle.std.proofs.Math.Logic.Dec
 use Rattle.std.proofs.Math.Bool.{So, cond, Bool-discrete}
 use Prim.Native.Nat.{ℕ, zero, suc, ◌≤◌, ◌<◌}
 use Rattle.orders.specs.Finite.{sum, sum_spare, search_below, cond-le}
@@ -105,7 +105,7 @@ module _ (𝓡 : Runner) where
       D s = So (waits S s) × So (goes_before s r)
 
       dec : (s : ℕ) → Dec (D s)
-      dec s = Dec·and (Bool-discrete (waits S s) true) (Bool-discrete (goes_before s r) true)
+      dec s = Dec.and (Bool-discrete (waits S s) true) (Bool-discrete (goes_before s r) true)
 
       go : ((s : ℕ) → height s < k → s < n → So (waits S s) → EligibleAtOrBefore s S) → Dec ((s : ℕ) × (s < n) × D s)
           → EligibleAtOrBefore r S

@@ -3,7 +3,8 @@
 -- does not matter which of the two runs comes first.
 use Rattle.std.specs.Prelude.{◌⊎◌, ◌≢◌, true, List, [], ◌∷◌}
 use Rattle.std.proofs.Common.{inl, inr, ⊎_elim, arith}
-use Rattle.std.proofs.Math.Logic.{Ne·symm, Dec·and}
+use Rattle.std.proofs.Math.Logic.{Ne-symm}
+use Rattle.std.proofs.Math.Logic.Dec
 use Rattle.std.proofs.Math.Bool.{So, Bool-discrete}
 use Prim.Native.Nat.{ℕ, zero, suc, ◌<◌}
 use Rattle.orders.specs.Finite.{search_below}
@@ -73,9 +74,9 @@ module _ (𝓢 : System) (P Q : ℕ → Type 0) (𝓓 : Side 𝓢 P Q) where
   waits_ahead_dec : (T : State) (s : ℕ) → Dec (WaitsAhead T s)
   unfolding WaitsAhead
   waits_ahead_dec T s =
-      Dec·and (Bool-discrete (waits T s) true)
+      Dec.and (Bool-discrete (waits T s) true)
       (search_below (λ m. So (goes_before s m) × Q m)
-      (λ m. Dec·and (Bool-discrete (goes_before s m) true) (Q_dec m)) n)
+      (λ m. Dec.and (Bool-discrete (goes_before s m) true) (Q_dec m)) n)
 
   run-below : (k : ℕ) (T : State) → step_bound 𝓢 T < k → AheadInP T → UntilNoneAhead T
   unfolding WaitsAhead
@@ -135,7 +136,7 @@ module _ (𝓢 : System) (P Q : ℕ → Type 0) (𝓓 : Side 𝓢 P Q) where
       let ne = apart a b p q in
       let l = Q_below b q in
       let w' : So (waits (step a S) b) = keeps a b S g.0 l g.1 ne (quiet_PQ a b p q) w in
-      let x : So (waits (step b S) a) = keeps b a S l g.0 w (Ne·symm ne) (quiet_QP a b p q) g.1 in
+      let x : So (waits (step b S) a) = keeps b a S l g.0 w (Ne-symm ne) (quiet_QP a b p q) g.1 in
       let ih = past b u (step a S) q w' g.2 h.1 in
       let e = same-is.symm _ _ (swaps a b S g.0 l ne (commuting a b p q) g.1 w) in
       (same-is.trans _ _ _ ih.0 (exec-same 𝓢 u e ih.1), (g.0, x, each_waits_same 𝓢 u e ih.1))

@@ -66,7 +66,7 @@ module _ (A : Runner) (𝓢 : System) (fit : A.State → Type 0) (view : A.State
               s,
               down s m,
               back S T s q (down s m) w,
-              𝓥.goesBefore-is s r (down s m) l ∙ ap (runner.goes_before s) i ∙ b,
+              𝓥.goes_before-is s r (down s m) l ∙ ap (runner.goes_before s) i ∙ b,
             );
         awake = λ r S T q m w. (r, down r m, back S T r q (down r m) w);
       }

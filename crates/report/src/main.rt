@@ -1,4 +1,5 @@
 // Reads a book from standard input and prints its lines.
+#![tactic(auto)]
 
 // One byte more than the largest book, so that a longer input is refused.
 fn main() {

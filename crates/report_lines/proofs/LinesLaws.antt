@@ -8,7 +8,7 @@ use lib.Dec.{ltb}
 use lib.ListN.{length}
 use lib.Pow.{pow_pos, pow_mono}
 use borrow.Author.Tests.{lt-ltb, le-ltb}
-use Rattle.bytes.specs.Put.{put}
+use Rattle.little.specs.Put.{put}
 use Rattle.mask.specs.Mask.{has}
 use Rattle.mask.proofs.BitsLaws.{ext, has-ones}
 use Rattle.mask.proofs.SearchLaws.{lt-or_ge}

@@ -3,7 +3,7 @@ use mathlib.Core.Path.{◌≡◌, sym, ap, ap₂, ◌∙◌, subst}
 use mathlib.Core.List.{List}
 use Prim.Native.Nat.{ℕ, ◌^◌, ◌<◌}
 use native.Mathlib.Decide.{ℕ_discrete}
-use Rattle.bytes.specs.EachByte.{Bytes}
+use Rattle.little.specs.EachByte.{Bytes}
 use Rattle.table.specs.Table.{Table, rule_at}
 use Rattle.book_judge.specs.Read.{Reading, table_in, read_of, told}
 use Rattle.book_judge.proofs.ReadLaws.{read_done}

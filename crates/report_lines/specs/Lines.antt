@@ -1,6 +1,6 @@
 -- What `lines` promises.
 use Rattle.std.specs.Prelude.{◌≡◌, cond, List, ℕ, ◌-◌, ◌^◌, ◌≤◌, ltb, length}
-use Rattle.bytes.specs.Put.{put}
+use Rattle.little.specs.Put.{put}
 use Rattle.table.specs.Table.{Table}
 use Rattle.table.specs.declared.Answer.{Answer}
 use Rattle.table.specs.Check.{Checked}

@@ -1,4 +1,6 @@
 // The report program's text: four lines for a book, or one where it is refused.
+#![tactic(auto)]
+
 ghost use Rattle.std.specs.Prelude.{◌≡◌, ◌∷◌, [], ◌+◌, ◌≤◌, length, take};
 ghost use Rattle.book_judge.specs.Read.{table_in, read_of, told};
 ghost use Rattle.analysis_masks.specs.AnalysisMasksInner.{report_in};
@@ -130,7 +132,7 @@ fn copy(a: Answer, text: &[u8], n: usize, out: &mut [u8]) -> Printed
             length: 0,
         };
     }
-    bytes::put_bytes(out, 0, &text[..n]);
+    little::put_bytes(out, 0, &text[..n]);
     Printed {
         number: a.number,
         place: a.place,

@@ -3,8 +3,8 @@ use mathlib.Core.Path.{◌≡◌, sym, ap, ap₂, ◌∙◌, subst}
 use mathlib.Core.List.{List}
 use Prim.Native.Nat.{ℕ, ◌+◌, ◌^◌, ◌<◌, ◌≤◌}
 use native.Mathlib.Omega.{arith}
-use Rattle.bytes.specs.Little.{byte_at}
-use Rattle.bytes.specs.EachByte.{Bytes}
+use Rattle.little.specs.Little.{byte_at}
+use Rattle.little.specs.EachByte.{Bytes}
 use Rattle.rule.specs.declared.Rule.{Rule}
 use Rattle.rule_read.specs.Parts.{rule_of}
 use Rattle.rule_read.specs.RuleReadInner.{Room}

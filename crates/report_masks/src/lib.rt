@@ -1,4 +1,6 @@
 // The masks of a book that was read, from its bodies where they lie: no table is made of it.
+#![tactic(auto)]
+
 ghost use Rattle.std.specs.Prelude.{◌≡◌};
 ghost use Rattle.book_judge.specs.Read.{table_in, read_of};
 ghost use Rattle.analysis.specs.TableMasks.{masks_of};
@@ -20,10 +22,10 @@ pub fn taken(book: &[u8]) -> Masks
         let c = rule_read::counts_at(book, at);
         let t = c.tests;
         let a = c.assigns;
-        watch[i] = bytes::u32_at(book, at);
+        watch[i] = little::u32_at(book, at);
         reads[i] = rule_uses::reads(book, at, t, a);
         writes[i] = rule_uses::writes(book, at, t, a);
-        precedes[i] = bytes::u32_at(book, at + 4);
+        precedes[i] = little::u32_at(book, at + 4);
     }
     Masks {
         n: n,

@@ -5,8 +5,8 @@ use Prim.Native.Nat.{ℕ, ◌+◌, ◌≤◌}
 use native.Mathlib.Omega.{arith}
 use lib.ListN.{length, take, drop, length-append}
 use lib.Seq.{length-take-le, take_at}
-use Rattle.bytes.specs.Put.{put}
-use Rattle.bytes.proofs.PutLaws.{length-put}
+use Rattle.little.specs.Put.{put}
+use Rattle.little.proofs.PutLaws.{length-put}
 use Rattle.report_text.specs.Text.{digits_to, spaced, line}
 use Rattle.report_text.specs.ReportTextInner.{Added}
 

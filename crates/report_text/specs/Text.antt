@@ -3,7 +3,7 @@ use Rattle.std.specs.Prelude.{cond, List, [], ◌∷◌, ◌++◌, ℕ, zero, su
 use Prim.Native.Char.{code}
 use Prim.Native.String.{String, [] as end, ◌∷◌ as ◌then◌}
 use Rattle.mask.specs.Mask.{has}
-use Rattle.bytes.specs.Joined.{joined}
+use Rattle.little.specs.Joined.{joined}
 
 -- the letters of a text, each by its ASCII code
 abbrev pub letters : String → List ℕ

@@ -1,5 +1,7 @@
 // A text that grows at its end in a lent buffer: letters, words and numbers. It is the buffer's first `at` bytes, and each function
 // gives where it ends then.
+#![tactic(auto)]
+
 ghost use Rattle.std.specs.Prelude.{◌≡◌, ◌∷◌, [], ◌+◌, ◌≤◌, length};
 ghost use Rattle.report_text.specs.Text.{digits_to, spaced, members};
 ghost use Rattle.report_text.specs.ReportTextInner.{Added};
@@ -14,7 +16,7 @@ pub fn word(out: &mut [u8; 512], at: usize, w: &[u8]) -> usize
     requires { at + length w.now ≤ 512 }
     ensures { Added out.old at w.now (length w.now) out.new result }
 {
-    bytes::put_bytes(out, at, w);
+    little::put_bytes(out, at, w);
     at + w.len()
 }
 

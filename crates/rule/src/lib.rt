@@ -1,4 +1,6 @@
 // One rule of a book: what it holds. What it uses and what is wrong with it is said in specs/.
+#![tactic(auto)]
+
 ghost use Rattle.std.specs.Prelude.{◌≡◌, ◌<◌};
 
 #[derive(Drop)]

@@ -1,4 +1,6 @@
 // One rule, where its bytes lie, over 32 lent cells of whole pence: its tests, its right sides, storing, and what then differs.
+#![tactic(auto)]
+
 ghost use Rattle.std.specs.Prelude.{◌≡◌, ◌<◌, length};
 ghost use Rattle.rule_act.specs.Amounts.{any_false};
 ghost use Rattle.rule_sums.specs.RuleSumsInner.{InRange};

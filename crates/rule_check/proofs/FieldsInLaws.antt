@@ -16,7 +16,7 @@ use Rattle.rule.specs.Empty.{no_test, no_assign}
 use Rattle.rule.specs.Uses.{assign_at}
 use Rattle.rule.proofs.FillLaws.{get_or-filled, some-filled, slots_filled}
 use Rattle.rule.specs.Numbers.{not_zero, test_cell_bad, assign_cell_bad, test_form_bad, assign_form_bad, test_slot_bad, assign_slot_bad, letter_bad, cells_bad, forms_bad, twice, letters_bad}
-use Rattle.bytes.specs.Little.{byte_at, u32_at}
+use Rattle.little.specs.Little.{byte_at, u32_at}
 use Rattle.rule_read.specs.Parts.{test_in, assign_in, rule_of}
 use Rattle.rule_check.specs.RuleCheckInner.{Fitted, cells_in, forms_in, twice_in, letters_in}
 

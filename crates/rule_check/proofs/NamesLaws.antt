@@ -13,11 +13,11 @@ use borrow.Author.Count.{below_more}
 use borrow.Author.Tests.{eq-eqb, eqb-true, not-true, not-false, le-ltb}
 use Rattle.mask.specs.Search.{some}
 use Rattle.mask.proofs.SearchLaws.{some_false, some-none, some_same, same_test, and_true_both, or_false_both, lt-or_ge}
-use Rattle.bytes.specs.Little.{byte_at, u64_at}
-use Rattle.bytes.specs.EachByte.{Bytes}
-use Rattle.bytes.specs.Bytes.{u64_bytes}
-use Rattle.bytes.proofs.BytesLaws.{length_u64}
-use Rattle.bytes.proofs.BytesBackLaws.{u64_stands}
+use Rattle.little.specs.Little.{byte_at, u64_at}
+use Rattle.little.specs.EachByte.{Bytes}
+use Rattle.little.specs.Bytes.{u64_bytes}
+use Rattle.little.proofs.BytesLaws.{length_u64}
+use Rattle.little.proofs.BytesBackLaws.{u64_stands}
 use Rattle.rule.specs.declared.Rule.{Rule}
 use Rattle.rule.specs.Empty.{no_rule}
 use Rattle.rule.specs.Numbers.{not_zero, counts_bad, forms_bad, letter_bad, letters_bad, same_name, name_taken, rule_number, test_form_bad, assign_form_bad, test_slot_bad, assign_slot_bad}

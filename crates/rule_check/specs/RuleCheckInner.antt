@@ -3,7 +3,7 @@ use Rattle.std.specs.Prelude.{◌≡◌, false, Bool, not, ◌&&◌, ◌||◌, c
 use Rattle.mask.specs.Search.{some}
 use Rattle.mask.specs.First.{first_of}
 use Rattle.mask.specs.Mask.{beyond}
-use Rattle.bytes.specs.Little.{byte_at, u32_at}
+use Rattle.little.specs.Little.{byte_at, u32_at}
 use Rattle.rule.specs.declared.Rule.{Rule}
 use Rattle.rule.specs.Numbers.{not_zero, counts_bad, test_cell_bad, assign_cell_bad, test_form_bad, assign_form_bad, test_slot_bad, assign_slot_bad, letter_bad, rule_numbers}
 use Rattle.rule_read.specs.Parts.{test_in, assign_in, rule_of}

@@ -1,9 +1,11 @@
 // The numbers 5 to 9 of a rule where its bytes lie, in a table or in a book.
+#![tactic(auto)]
+
 ghost use Rattle.std.specs.Prelude.{◌≡◌, ◌+◌, ◌*◌, ◌≤◌, ◌<◌, length};
 ghost use Rattle.mask.specs.Search.{some};
 ghost use Rattle.rule.specs.Numbers.{test_cell_bad, assign_cell_bad, letter_bad, counts_bad};
 ghost use Rattle.mask.specs.Mask.{beyond};
-ghost use Rattle.bytes.specs.Little.{byte_at, u32_at};
+ghost use Rattle.little.specs.Little.{byte_at, u32_at};
 ghost use Rattle.rule_read.specs.Parts.{test_in, assign_in, rule_of};
 ghost use Rattle.rule_check.specs.RuleCheckInner.{Lies, Fitted, test_bad, assign_bad, letter_left, taken_at, taken_in};
 ghost use Rattle.rule_check.specs.RuleCheckInner.{cells_in, forms_in, twice_in, letters_in, number_with};
@@ -137,7 +139,7 @@ fn mask_beyond(s: &[u8], at: usize, n: u8) -> bool
     requires { (at + 4 ≤ length s.now) × (n ≤ 32) }
     ensures { result ≡ beyond (u32_at s.now at) n }
 {
-    mask::beyond(bytes::u32_at(s, at), rule::count(n))
+    mask::beyond(little::u32_at(s, at), rule::count(n))
 }
 
 // 6 of the rule whose head is at `at`, with room for t tests, a assignments and m letters after it.

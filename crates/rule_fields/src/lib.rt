@@ -1,4 +1,6 @@
 // What 6, 7 and 9 say of one test, one assignment and one letter, and 11 and 16 of one amount.
+#![tactic(auto)]
+
 ghost use Rattle.std.specs.Prelude.{◌≡◌};
 ghost use Rattle.rule.specs.Numbers.{out_of_range, test_cell_bad, assign_cell_bad, test_form_bad, assign_form_bad, test_slot_bad, assign_slot_bad, letter_bad};
 

@@ -3,7 +3,7 @@ use mathlib.Core.Path.{◌≡◌, ap}
 use mathlib.Core.List.{List, ◌++◌}
 use Prim.Native.Nat.{ℕ, ◌+◌, ◌-◌, ◌*◌, ◌<◌}
 use lib.ListN.{replicate}
-use Rattle.bytes.specs.Little.{u32_at}
+use Rattle.little.specs.Little.{u32_at}
 use Rattle.rule.specs.Fill.{filled}
 use Rattle.rule.proofs.FillLaws.{upto-same}
 use Rattle.rule_read.specs.RuleReadInner.{column_in}

@@ -6,8 +6,8 @@ use Prim.Native.Nat.{ℕ, ◌+◌, ◌≤◌, ◌<◌}
 use native.Mathlib.Omega.{arith}
 use lib.ListN.{length, get_or-eq_default}
 use Rattle.mask.proofs.SearchLaws.{lt-or_ge}
-use Rattle.bytes.specs.Little.{byte_at}
-use Rattle.bytes.specs.EachByte.{Bytes}
+use Rattle.little.specs.Little.{byte_at}
+use Rattle.little.specs.EachByte.{Bytes}
 use Rattle.rule.proofs.FillLaws.{length-filled, each-filled}
 use Rattle.rule_read.specs.Parts.{name_in}
 

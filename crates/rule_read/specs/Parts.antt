@@ -1,6 +1,6 @@
 -- What stands in bytes: a test, an assignment, a name, a rule.
 use Rattle.std.specs.Prelude.{List, ℕ, ◌+◌, ◌*◌}
-use Rattle.bytes.specs.Little.{byte_at, u32_at, i64_at}
+use Rattle.little.specs.Little.{byte_at, u32_at, i64_at}
 use Rattle.rule.specs.declared.Test.{Test}
 use Rattle.rule.specs.declared.Assign.{Assign}
 use Rattle.rule.specs.declared.Rule.{Rule}

@@ -1,6 +1,6 @@
 -- What only contracts of inner functions of `rule_read` cite.
 use Rattle.std.specs.Prelude.{◌≡◌, List, ℕ, ◌+◌, ◌*◌, ◌≤◌, ◌<◌, length}
-use Rattle.bytes.specs.Little.{byte_at, u32_at}
+use Rattle.little.specs.Little.{byte_at, u32_at}
 use Rattle.rule.specs.Fill.{filled}
 use Rattle.rule_read.specs.declared.Counts.{Counts}
 

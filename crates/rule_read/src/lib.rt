@@ -1,6 +1,8 @@
 // Reads one test, one assignment, a name, counts or a row of masks out of bytes.
+#![tactic(auto)]
+
 ghost use Rattle.std.specs.Prelude.{◌≡◌, ℕ, ◌+◌, ◌*◌, ◌≤◌, ◌<◌, length};
-ghost use Rattle.bytes.specs.Little.{byte_at};
+ghost use Rattle.little.specs.Little.{byte_at};
 ghost use Rattle.rule_read.specs.RuleReadInner.{column_in, CountsAt};
 ghost use Rattle.rule_read.specs.Parts.{test_in, assign_in, name_in};
 
@@ -18,7 +20,7 @@ pub fn read_test(s: &[u8], at: usize) -> Test
     requires { at + 12 ≤ length s.now }
     ensures { result ≡ test_in s.now at }
 {
-    let constant = bytes::i64_at(s, at + 4);
+    let constant = little::i64_at(s, at + 4);
     Test {
         left: s[at],
         comparison: s[at + 1],
@@ -32,9 +34,9 @@ pub fn read_assign(s: &[u8], at: usize) -> Assign
     requires { at + 20 ≤ length s.now }
     ensures { result ≡ assign_in s.now at }
 {
-    let p = bytes::u32_at(s, at + 12);
-    let q = bytes::u32_at(s, at + 16);
-    let k = bytes::i64_at(s, at + 4);
+    let p = little::u32_at(s, at + 12);
+    let q = little::u32_at(s, at + 16);
+    let k = little::i64_at(s, at + 4);
     Assign {
         target: s[at],
         operation: s[at + 1],
@@ -87,7 +89,7 @@ pub fn column(s: &[u8], at: usize, step: usize, n: usize) -> [u32; 32]
 {
     let mut q = [0u32; 32];
     for i in 0..n {
-        q[i] = bytes::u32_at(s, at + step * i);
+        q[i] = little::u32_at(s, at + step * i);
     }
     q
 }

@@ -1,4 +1,6 @@
 // One test and one right side, over 32 lent cells of whole pence.
+#![tactic(auto)]
+
 ghost use Rattle.std.specs.Prelude.{◌≡◌, false, ◌≤◌, ◌+ℤ◌, ◌-ℤ◌};
 ghost use Rattle.rule.specs.Numbers.{out_of_range};
 ghost use Rattle.rule_sums.specs.Sums.{at, compares, holds, scaled, value_of};

@@ -1,9 +1,11 @@
 // The cells that a rule reads and writes, as masks, from the bytes where it lies, in a table or in a book: of cells below 32, which is
 // all of them where it is sound.
+#![tactic(auto)]
+
 ghost use Rattle.std.specs.Prelude.{◌≡◌, ◌&&◌, ℕ, ◌+◌, ◌*◌, ◌≤◌, ltb, eqb, length};
 ghost use Rattle.mask.specs.Search.{some};
 ghost use Rattle.mask.specs.Mask.{has};
-ghost use Rattle.bytes.specs.Little.{byte_at};
+ghost use Rattle.little.specs.Little.{byte_at};
 ghost use Rattle.rule.specs.Uses.{test_reads, side_reads, reads, writes};
 ghost use Rattle.rule_read.specs.Parts.{test_in, assign_in, rule_of};
 ghost use Rattle.rule_read.specs.RuleReadInner.{Room};

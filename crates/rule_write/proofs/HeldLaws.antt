@@ -10,9 +10,9 @@ use lib.ListN.{length}
 use mir.Syntax.{w64}
 use mir.Val.{SFits}
 use borrow.Author.Tests.{ltb-true, ltb-false}
-use Rattle.bytes.specs.Little.{u64_at, signed}
-use Rattle.bytes.specs.EachByte.{Bytes}
-use Rattle.bytes.proofs.BytesBackLaws.{u32_stands, u64_stands}
+use Rattle.little.specs.Little.{u64_at, signed}
+use Rattle.little.specs.EachByte.{Bytes}
+use Rattle.little.proofs.BytesBackLaws.{u32_stands, u64_stands}
 use Rattle.rule.specs.declared.Test.{Test}
 use Rattle.rule.specs.declared.Assign.{Assign}
 use Rattle.rule.specs.Empty.{no_test, no_assign, no_rule}

@@ -3,8 +3,8 @@ use mathlib.Core.Path.{◌≡◌}
 use mathlib.Core.List.{List}
 use Prim.Native.Nat.{ℕ, ◌+◌, ◌*◌}
 use lib.ListN.{length, get_or, length-append}
-use Rattle.bytes.proofs.BytesLaws.{length_u32, length_i64}
-use Rattle.bytes.proofs.JoinedLaws.{length-joined}
+use Rattle.little.proofs.BytesLaws.{length_u32, length_i64}
+use Rattle.little.proofs.JoinedLaws.{length-joined}
 use Rattle.rule.specs.declared.Test.{Test}
 use Rattle.rule.specs.declared.Assign.{Assign}
 use Rattle.rule.specs.declared.Rule.{Rule}

@@ -7,11 +7,11 @@ use native.Mathlib.Omega.{arith}
 use lib.ListN.{length, get_or, length-append}
 use mir.Syntax.{w64}
 use mir.Val.{SFits}
-use Rattle.bytes.specs.Little.{byte_at}
-use Rattle.bytes.specs.Bytes.{u16_bytes, u32_bytes, i64_bytes}
-use Rattle.bytes.proofs.BytesLaws.{length_u32, length_i64}
-use Rattle.bytes.proofs.StandsLaws.{Stands, stands-left, stands-right, stands_after}
-use Rattle.bytes.proofs.BytesBackLaws.{byte_read, u32_read, i64_read}
+use Rattle.little.specs.Little.{byte_at}
+use Rattle.little.specs.Bytes.{u16_bytes, u32_bytes, i64_bytes}
+use Rattle.little.proofs.BytesLaws.{length_u32, length_i64}
+use Rattle.little.proofs.StandsLaws.{Stands, stands-left, stands-right, stands_after}
+use Rattle.little.proofs.BytesBackLaws.{byte_read, u32_read, i64_read}
 use Rattle.rule.specs.declared.Test.{Test}
 use Rattle.rule.specs.declared.Assign.{Assign}
 use Rattle.rule.specs.declared.Rule.{Rule}

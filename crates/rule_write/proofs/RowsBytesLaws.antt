@@ -8,9 +8,9 @@ use native.Mathlib.Omega.{arith}
 use lib.ListN.{length, get_or}
 use lib.Seq.{ext_get_or}
 use Rattle.mask.proofs.SearchLaws.{lt-or_ge}
-use Rattle.bytes.proofs.StandsLaws.{Stands}
-use Rattle.bytes.specs.Joined.{joined}
-use Rattle.bytes.proofs.JoinedLaws.{length-joined, stands-joined, stands-each}
+use Rattle.little.proofs.StandsLaws.{Stands}
+use Rattle.little.specs.Joined.{joined}
+use Rattle.little.proofs.JoinedLaws.{length-joined, stands-joined, stands-each}
 use Rattle.rule.specs.Fill.{filled}
 use Rattle.rule.proofs.FillLaws.{length-filled, get_or-filled, get_or-left}
 

@@ -16,8 +16,8 @@ use Rattle.rule.specs.declared.Rule.{Rule}
 use Rattle.rule.specs.Empty.{no_test, no_assign, no_rule}
 use Rattle.rule.specs.Uses.{test_at, assign_at}
 use Rattle.rule.specs.Numbers.{not_zero, not_zero_z, forms_bad, rule_slot_bad, test_form_bad, assign_form_bad, test_slot_bad, assign_slot_bad}
-use Rattle.bytes.specs.Bytes.{u16_bytes, u32_bytes, u64_bytes, i64_bytes}
-use Rattle.bytes.specs.Joined.{joined}
+use Rattle.little.specs.Bytes.{u16_bytes, u32_bytes, u64_bytes, i64_bytes}
+use Rattle.little.specs.Joined.{joined}
 use Rattle.rule_write.specs.Pieces.{test_bytes, tests_bytes, assign_bytes, assigns_bytes, name_bytes, head_bytes, rule_bytes}
 use Rattle.rule_write.specs.RuleWriteInner.{slot_bytes}
 use Rattle.rule_write.specs.HeldRule.{HeldRule}

@@ -4,12 +4,12 @@ use mathlib.Core.List.{List, [], ◌∷◌, ◌++◌}
 use Prim.Native.Nat.{ℕ, ◌+◌, ◌*◌, ◌≤◌}
 use native.Mathlib.Omega.{arith}
 use lib.ListN.{length, get_or, length-append}
-use Rattle.bytes.specs.Little.{byte_at, u32_at, i64_at}
-use Rattle.bytes.specs.Bytes.{u32_bytes, i64_bytes}
-use Rattle.bytes.proofs.BytesLaws.{length_u32, length_i64}
-use Rattle.bytes.proofs.StandsLaws.{Stands, stands_4, stands_then}
-use Rattle.bytes.specs.EachByte.{Bytes}
-use Rattle.bytes.proofs.BytesBackLaws.{u32_stands, i64_stands}
+use Rattle.little.specs.Little.{byte_at, u32_at, i64_at}
+use Rattle.little.specs.Bytes.{u32_bytes, i64_bytes}
+use Rattle.little.proofs.BytesLaws.{length_u32, length_i64}
+use Rattle.little.proofs.StandsLaws.{Stands, stands_4, stands_then}
+use Rattle.little.specs.EachByte.{Bytes}
+use Rattle.little.proofs.BytesBackLaws.{u32_stands, i64_stands}
 use Rattle.rule.specs.Empty.{no_test, no_assign}
 use Rattle.rule.specs.Fill.{filled}
 use Rattle.rule.proofs.FillLaws.{get_or-upto, length-upto, get_or-filled}

@@ -1,7 +1,7 @@
 -- The bytes of a rule's parts.
 use Rattle.std.specs.Prelude.{List, [], ◌∷◌, ◌++◌, ℕ, get_or}
-use Rattle.bytes.specs.Bytes.{u32_bytes, i64_bytes}
-use Rattle.bytes.specs.Joined.{joined}
+use Rattle.little.specs.Bytes.{u32_bytes, i64_bytes}
+use Rattle.little.specs.Joined.{joined}
 use Rattle.rule.specs.declared.Test.{Test}
 use Rattle.rule.specs.declared.Assign.{Assign}
 use Rattle.rule.specs.declared.Rule.{Rule}

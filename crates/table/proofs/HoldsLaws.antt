@@ -5,7 +5,7 @@ use Prim.Native.Nat.{ℕ, ◌+◌, ◌≤◌}
 use native.Mathlib.Nat.{le_refl}
 use native.Mathlib.Omega.{arith}
 use lib.ListN.{length}
-use Rattle.bytes.specs.EachByte.{Bytes}
+use Rattle.little.specs.EachByte.{Bytes}
 use Rattle.rule.specs.Empty.{no_rule}
 use Rattle.rule.proofs.FillLaws.{length-filled, each-filled}
 use Rattle.rule_write.specs.HeldRule.{HeldRule}

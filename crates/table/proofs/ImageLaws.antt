@@ -21,9 +21,9 @@ use Rattle.rule_read.specs.RuleReadInner.{column_in}
 use Rattle.rule_read.proofs.ColumnLaws.{column-same}
 use Rattle.rule_read.proofs.NameReadLaws.{name-long, name-bytes}
 use Rattle.rule_check.specs.RuleCheckInner.{Lies}
-use Rattle.bytes.specs.Little.{byte_at, u32_at, u64_at}
-use Rattle.bytes.specs.EachByte.{Bytes}
-use Rattle.bytes.proofs.BytesBackLaws.{word_same}
+use Rattle.little.specs.Little.{byte_at, u32_at, u64_at}
+use Rattle.little.specs.EachByte.{Bytes}
+use Rattle.little.proofs.BytesBackLaws.{word_same}
 use Rattle.table.specs.Table.{Table, rule_at}
 use Rattle.table.specs.Check.{answer, done, sizes_bad, number_at, first_bad, check_of}
 use Rattle.table.specs.Memory.{table_from}

@@ -13,9 +13,9 @@ use borrow.Author.Tests.{le-leb, lt-leb, eqb-true, not-false}
 use Rattle.mask.specs.Search.{some}
 use Rattle.mask.proofs.SearchLaws.{some_same, some-none, some_false, lt-or_ge}
 use Rattle.mask.proofs.LoopsLaws.{Passed}
-use Rattle.bytes.specs.Little.{byte_at}
-use Rattle.bytes.proofs.StandsLaws.{Stands}
-use Rattle.bytes.specs.EachByte.{Bytes}
+use Rattle.little.specs.Little.{byte_at}
+use Rattle.little.proofs.StandsLaws.{Stands}
+use Rattle.little.specs.EachByte.{Bytes}
 use Rattle.rule.specs.Empty.{no_rule}
 use Rattle.rule.specs.Numbers.{not_zero, forms_bad, rule_slot_bad}
 use Rattle.rule_write.specs.RuleWriteInner.{slot_bytes}

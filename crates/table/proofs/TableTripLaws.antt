@@ -5,9 +5,9 @@ use Prim.Native.Nat.{ℕ, ◌+◌, ◌≤◌}
 use native.Mathlib.Nat.{le_refl}
 use native.Mathlib.Omega.{arith}
 use lib.ListN.{length}
-use Rattle.bytes.specs.Little.{byte_at}
-use Rattle.bytes.proofs.StandsLaws.{Stands, stands_self, stands-right, stands_4, stands_then, stands-whole}
-use Rattle.bytes.specs.EachByte.{Bytes}
+use Rattle.little.specs.Little.{byte_at}
+use Rattle.little.proofs.StandsLaws.{Stands, stands_self, stands-right, stands_4, stands_then, stands-whole}
+use Rattle.little.specs.EachByte.{Bytes}
 use Rattle.rule.specs.declared.Rule.{Rule}
 use Rattle.rule.specs.Empty.{no_rule}
 use Rattle.rule_read.specs.Parts.{rule_of}

@@ -1,8 +1,8 @@
 -- A table in memory as 9,092 bytes: "byte 0 and byte 3 not looked at (callers set 0), byte 1 n, byte 2 k, then 32 rules
 -- of 284 bytes each, laid out like a body with every slot present".
 use Rattle.std.specs.Prelude.{◌≡◌, List, [], ◌∷◌, ◌++◌, ℕ, ◌+◌, ◌*◌, ◌<◌, length}
-use Rattle.bytes.specs.Little.{byte_at}
-use Rattle.bytes.specs.Joined.{joined}
+use Rattle.little.specs.Little.{byte_at}
+use Rattle.little.specs.Joined.{joined}
 use Rattle.rule.specs.Fill.{upto}
 use Rattle.rule_read.specs.Parts.{rule_of}
 use Rattle.rule_write.specs.Pieces.{rule_bytes}

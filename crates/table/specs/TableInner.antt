@@ -5,7 +5,7 @@ use Rattle.rule.specs.declared.Rule.{Rule}
 use Rattle.rule.specs.Fill.{filled}
 use Rattle.rule.specs.Numbers.{not_zero}
 use Rattle.rule_read.specs.Parts.{rule_of}
-use Rattle.bytes.specs.Little.{byte_at}
+use Rattle.little.specs.Little.{byte_at}
 use Rattle.table.specs.Table.{Table, rule_at}
 use Rattle.table.specs.declared.Answer.{Answer}
 use Rattle.table.specs.Check.{answer, done, number_at, first_bad}

@@ -1,7 +1,9 @@
 // A table as the 9,092 bytes where they lie: the checks that every call on a table makes first.
+#![tactic(auto)]
+
 ghost use Rattle.std.specs.Prelude.{◌≡◌, ◌≤◌, length, replicate};
 ghost use Rattle.graph.specs.Graph.{cyclic};
-ghost use Rattle.bytes.specs.Little.{byte_at};
+ghost use Rattle.little.specs.Little.{byte_at};
 ghost use Rattle.table.specs.Table.{precedes_of};
 ghost use Rattle.table.specs.Check.{sizes_bad, first_slot, check_of};
 ghost use Rattle.table.specs.Memory.{table_from};
@@ -29,8 +31,8 @@ fn judge(s: &[u8], n: u8, k: u8, row: &mut [u32; 32]) -> Answer
     let mut names = [0u64; 64];
     for i in 0..rule::count(n) {
         let at = 4 + 284 * i;
-        let low = bytes::u64_at(s, at + 268);
-        let high = bytes::u64_at(s, at + 276);
+        let low = little::u64_at(s, at + 268);
+        let high = little::u64_at(s, at + 276);
         let c = rule_check::number_in(
             s,
             at,
@@ -49,7 +51,7 @@ fn judge(s: &[u8], n: u8, k: u8, row: &mut [u32; 32]) -> Answer
         }
         names[2 * i] = low;
         names[2 * i + 1] = high;
-        row[i] = bytes::u32_at(s, at + 4);
+        row[i] = little::u32_at(s, at + 4);
     }
     Answer {
         number: 0,

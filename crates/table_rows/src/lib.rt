@@ -1,7 +1,9 @@
 // The rows of masks of a table, from the 9,092 bytes where they lie.
+#![tactic(auto)]
+
 ghost use Rattle.std.specs.Prelude.{◌≡◌, ℕ, ◌≤◌, length, get_or};
 ghost use Rattle.mask.specs.Mask.{has};
-ghost use Rattle.bytes.specs.Little.{byte_at};
+ghost use Rattle.little.specs.Little.{byte_at};
 ghost use Rattle.table.specs.Table.{precedes_of, goes_before};
 ghost use Rattle.table.specs.TableInner.{watches_of};
 ghost use Rattle.table.specs.Memory.{table_from};

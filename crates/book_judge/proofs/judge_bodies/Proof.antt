@@ -7,8 +7,8 @@ use native.Mathlib.Omega.{arith}
 use lib.ListN.{length, set}
 use Rattle.mask.proofs.LoopsLaws.{Passed, passed_none, passed-more}
 use Rattle.graph.specs.Graph.{cyclic}
-use Rattle.bytes.specs.EachByte.{Bytes}
-use Rattle.bytes.specs.Little.{u32_at, u64_at}
+use Rattle.little.specs.EachByte.{Bytes}
+use Rattle.little.specs.Little.{u32_at, u64_at}
 use Rattle.rule.specs.declared.Rule.{Rule}
 use Rattle.rule.specs.Fill.{filled}
 use Rattle.rule.proofs.FillLaws.{filled_more}

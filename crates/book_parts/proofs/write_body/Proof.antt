@@ -2,7 +2,7 @@
 use mathlib.Core.Path.{◌∙◌}
 use Prim.Native.Nat.{◌+◌, ◌*◌}
 use native.Mathlib.Omega.{arith}
-use Rattle.bytes.specs.EachByte.{Bytes}
+use Rattle.little.specs.EachByte.{Bytes}
 use Rattle.book_parts.proofs.BodyWriteLaws.{put-body}
 use borrow.Author.Rules.{rules}
 use Rattle.book_parts.proofs.write_body.Statement.{statement}

@@ -4,11 +4,11 @@ use mathlib.Core.List.{List, ◌++◌}
 use Prim.Native.Nat.{ℕ, ◌+◌, ◌*◌, ◌≤◌, ◌<◌, ◌-◌}
 use native.Mathlib.Omega.{arith}
 use lib.ListN.{length}
-use Rattle.bytes.specs.Put.{put}
-use Rattle.bytes.proofs.PutLaws.{put-nil}
-use Rattle.bytes.specs.Bytes.{u16_bytes}
-use Rattle.bytes.specs.Joined.{joined}
-use Rattle.bytes.proofs.JoinedLaws.{put-joined}
+use Rattle.little.specs.Put.{put}
+use Rattle.little.proofs.PutLaws.{put-nil}
+use Rattle.little.specs.Bytes.{u16_bytes}
+use Rattle.little.specs.Joined.{joined}
+use Rattle.little.proofs.JoinedLaws.{put-joined}
 use Rattle.rule.specs.declared.Rule.{Rule}
 use Rattle.table.specs.Memory.{table_from}
 use Rattle.table.proofs.ImageLaws.{rule-from}

@@ -1,9 +1,9 @@
 -- Two numbers side by side: two writes are one.
 use Prim.Native.Nat.{◌+◌}
 use native.Mathlib.Omega.{arith}
-use Rattle.bytes.proofs.PutLaws.{put_next}
-use Rattle.bytes.specs.Bytes.{u16_bytes}
-use Rattle.bytes.proofs.BytesLaws.{length_u16}
+use Rattle.little.proofs.PutLaws.{put_next}
+use Rattle.little.specs.Bytes.{u16_bytes}
+use Rattle.little.proofs.BytesLaws.{length_u16}
 use borrow.Author.Rules.{rules}
 use Rattle.book_parts.proofs.write_entry.Statement.{statement}
 use Rattle.book_parts.proofs.write_entry.Tie as tie

@@ -2,7 +2,7 @@
 use mathlib.Core.Path.{◌∙◌}
 use native.Mathlib.Omega.{arith}
 use borrow.Author.Rules.{rules}
-use Rattle.bytes.specs.EachByte.{Bytes}
+use Rattle.little.specs.EachByte.{Bytes}
 use Rattle.rule_read.specs.RuleReadInner.{Room}
 use Rattle.book_read.proofs.SpreadLaws.{put-slot}
 use Rattle.book_read.proofs.put_body.Statement.{statement}

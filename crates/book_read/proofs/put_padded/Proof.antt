@@ -5,7 +5,7 @@ use native.Mathlib.Omega.{arith}
 use lib.ListN.{length, take, drop, replicate, length-drop}
 use lib.Seq.{length-take-le}
 use borrow.Author.Rules.{rules}
-use Rattle.bytes.proofs.PutLaws.{put_next}
+use Rattle.little.proofs.PutLaws.{put_next}
 use Rattle.book_read.proofs.put_padded.Statement.{statement}
 use Rattle.book_read.proofs.put_padded.Tie as tie
 

@@ -3,7 +3,7 @@ use mathlib.Core.Path.{◌≡◌, sym, ap, ◌∙◌}
 use Prim.Native.Nat.{ℕ}
 use lib.ListN.{length, replicate, length-replicate}
 use borrow.Author.Rules.{rules}
-use Rattle.bytes.proofs.PutLaws.{put_whole}
+use Rattle.little.proofs.PutLaws.{put_whole}
 use Rattle.table.specs.declared.Answer.{Answer}
 use Rattle.table.specs.Memory.{table_bytes}
 use Rattle.table.proofs.ZerosLaws.{empty-zeros}

@@ -5,10 +5,10 @@ use mathlib.Core.List.{[], ◌∷◌, ◌++◌}
 use native.Mathlib.Omega.{arith}
 use lib.ListN.{length, length-append}
 use borrow.Author.Rules.{rules}
-use Rattle.bytes.specs.Put.{put}
-use Rattle.bytes.proofs.PutLaws.{put_next}
-use Rattle.bytes.specs.Bytes.{u16_bytes, u32_bytes}
-use Rattle.bytes.proofs.BytesLaws.{length_u16, length_u32}
+use Rattle.little.specs.Put.{put}
+use Rattle.little.proofs.PutLaws.{put_next}
+use Rattle.little.specs.Bytes.{u16_bytes, u32_bytes}
+use Rattle.little.proofs.BytesLaws.{length_u16, length_u32}
 use Rattle.layout_report.specs.Layout.{summary_bytes}
 use Rattle.layout_report.proofs.put_head.Statement.{statement}
 use Rattle.layout_report.proofs.put_head.Tie as tie

@@ -3,7 +3,7 @@ use mathlib.Core.Path.{◌≡◌, sym, ◌∙◌}
 use native.Mathlib.Omega.{arith}
 use lib.ListN.{length}
 use borrow.Author.Rules.{rules}
-use Rattle.bytes.proofs.PutLaws.{put_next, put_whole}
+use Rattle.little.proofs.PutLaws.{put_next, put_whole}
 use Rattle.layout_report.specs.Layout.{summary_bytes, report_bytes}
 use Rattle.layout_report.proofs.LayoutLaws.{length_summary, length-report}
 use Rattle.layout_report.proofs.store_report.Statement.{statement}

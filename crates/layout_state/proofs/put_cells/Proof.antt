@@ -6,11 +6,11 @@ use lib.IntN.{ℤ}
 use lib.ListN.{length}
 use mir.Facts.{to_z-of_z}
 use borrow.Author.Rules.{rules, sfits_of}
-use Rattle.bytes.specs.Put.{put}
-use Rattle.bytes.proofs.PutLaws.{put-nil}
-use Rattle.bytes.specs.Bytes.{i64_bytes}
-use Rattle.bytes.specs.Joined.{joined}
-use Rattle.bytes.proofs.JoinedLaws.{put-joined}
+use Rattle.little.specs.Put.{put}
+use Rattle.little.proofs.PutLaws.{put-nil}
+use Rattle.little.specs.Bytes.{i64_bytes}
+use Rattle.little.specs.Joined.{joined}
+use Rattle.little.proofs.JoinedLaws.{put-joined}
 use Rattle.rule_sums.specs.Sums.{at}
 use Rattle.layout_state.specs.States.{cells_bytes}
 use Rattle.layout_state.proofs.StatesLaws.{length-cells}

@@ -4,8 +4,8 @@ use mathlib.Core.List.{◌++◌}
 use native.Mathlib.Omega.{arith}
 use lib.ListN.{length}
 use borrow.Author.Rules.{rules}
-use Rattle.bytes.proofs.PutLaws.{put_next, put_whole}
-use Rattle.bytes.specs.Bytes.{u32_bytes}
+use Rattle.little.proofs.PutLaws.{put_next, put_whole}
+use Rattle.little.specs.Bytes.{u32_bytes}
 use Rattle.layout_state.specs.States.{cells_bytes, state_bytes}
 use Rattle.layout_state.proofs.StatesLaws.{length-cells, length_front, length-state}
 use Rattle.layout_state.proofs.store_state.Statement.{statement}

@@ -4,7 +4,7 @@ use mathlib.Core.List.{List}
 use Prim.Native.Nat.{ℕ, ◌-◌, ◌^◌}
 use native.Mathlib.Omega.{arith}
 use lib.Dec.{ltb}
-use Rattle.bytes.specs.EachByte.{Bytes}
+use Rattle.little.specs.EachByte.{Bytes}
 use Rattle.analysis_pairs.specs.declared.Masks.{Masks}
 use Rattle.analysis_masks.specs.AnalysisMasksInner.{Orderly, report_in}
 use Rattle.analysis_masks.specs.Report.{Reported}

@@ -6,8 +6,8 @@ use mathlib.Core.Logic.{⊎_elim}
 use Prim.Native.Nat.{ℕ, ◌+◌, ◌-◌, ◌*◌, ◌≤◌}
 use native.Mathlib.Omega.{arith}
 use Rattle.mask.specs.Mask.{has}
-use Rattle.bytes.specs.Joined.{joined}
-use Rattle.bytes.proofs.JoinedLaws.{joined-more}
+use Rattle.little.specs.Joined.{joined}
+use Rattle.little.proofs.JoinedLaws.{joined-more}
 use Rattle.report_text.specs.Text.{spaced, members}
 use Rattle.report_text.specs.ReportTextInner.{Added}
 use Rattle.report_text.proofs.AddedLaws.{added_none, added_as, added_numbers}

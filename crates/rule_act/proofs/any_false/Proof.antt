@@ -8,7 +8,7 @@ use Rattle.mask.proofs.SearchLaws.{some_intro, some-none}
 use Rattle.mask.proofs.LoopsLaws.{Passed, passed_none, passed-more}
 use Rattle.rule.specs.declared.Test.{Test}
 use Rattle.rule.specs.Uses.{test_at}
-use Rattle.bytes.specs.Little.{byte_at}
+use Rattle.little.specs.Little.{byte_at}
 use Rattle.rule_sums.specs.Sums.{holds}
 use Rattle.rule_act.specs.Amounts.{any_false}
 use Rattle.rule_act.specs.RuleActInner.{slot_rule}

@@ -9,7 +9,7 @@ use Rattle.mask.proofs.LoopsLaws.{Sought, sought_none, sought_more, sought_all}
 use Rattle.rule.specs.declared.Assign.{Assign}
 use Rattle.rule.specs.Numbers.{out_of_range}
 use Rattle.rule.specs.Uses.{assign_at}
-use Rattle.bytes.specs.Little.{byte_at}
+use Rattle.little.specs.Little.{byte_at}
 use Rattle.rule_sums.specs.Sums.{value_of}
 use Rattle.rule_act.specs.Amounts.{any_out}
 use Rattle.rule_sums.specs.RuleSumsInner.{InBounds}

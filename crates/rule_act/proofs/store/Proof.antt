@@ -7,7 +7,7 @@ use mir.Facts.{to_z-of_z}
 use borrow.Author.Rules.{rules, sfits_of}
 use Rattle.rule.specs.declared.Assign.{Assign}
 use Rattle.rule.specs.Uses.{assign_at}
-use Rattle.bytes.specs.Little.{byte_at}
+use Rattle.little.specs.Little.{byte_at}
 use Rattle.rule_act.specs.RuleActInner.{slot_rule, Put, Stored}
 use Rattle.rule_act.proofs.ActSlotLaws.{assign_in_lem, stored-none, stored_one}
 use Rattle.rule_act.proofs.store.Statement.{statement}

@@ -3,7 +3,7 @@ use mathlib.Core.Path.{refl}
 use Prim.Native.Nat.{◌+◌, ◌*◌, ◌≤◌, ◌-◌}
 use lib.Dec.{eqb}
 use Rattle.mask.proofs.LoopsLaws.{Sought, sought_none, sought_more, sought_all}
-use Rattle.bytes.specs.Little.{byte_at}
+use Rattle.little.specs.Little.{byte_at}
 use borrow.Author.Rules.{rules}
 use Rattle.rule_check.proofs.target_taken.Statement.{statement}
 use Rattle.rule_check.proofs.target_taken.Tie as tie

@@ -3,7 +3,7 @@ use mathlib.Core.Path.{◌≡◌, refl, ap, ◌∙◌}
 use Prim.Native.Nat.{ℕ, ◌+◌, ◌*◌, ◌<◌, ◌≤◌, ◌-◌}
 use native.Mathlib.Omega.{arith}
 use lib.ListN.{length}
-use Rattle.bytes.specs.Little.{u32_at}
+use Rattle.little.specs.Little.{u32_at}
 use Rattle.rule.proofs.FillLaws.{filled_more}
 use Rattle.rule_read.specs.RuleReadInner.{column_in}
 use borrow.Author.Rules.{rules}

@@ -3,7 +3,7 @@ use mathlib.Core.Bool.{◌&&◌}
 use Prim.Native.Nat.{◌+◌, ◌*◌, ◌≤◌, ◌-◌}
 use lib.Dec.{ltb, eqb}
 use Rattle.mask.proofs.LoopsLaws.{United, united_none, united_more, united_all}
-use Rattle.bytes.specs.Little.{byte_at}
+use Rattle.little.specs.Little.{byte_at}
 use borrow.Author.Rules.{rules}
 use Rattle.rule_uses.proofs.targets.Statement.{statement}
 use Rattle.rule_uses.proofs.targets.Tie as tie

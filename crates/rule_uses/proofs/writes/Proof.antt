@@ -2,7 +2,7 @@
 use mathlib.Core.Path.{◌∙◌}
 use Prim.Native.Nat.{◌+◌, ◌*◌}
 use lib.Dec.{eqb, ltb}
-use Rattle.bytes.specs.Little.{byte_at}
+use Rattle.little.specs.Little.{byte_at}
 use Rattle.rule.specs.declared.Assign.{Assign}
 use Rattle.rule.specs.Empty.{no_assign}
 use Rattle.rule.specs.Uses.{writes}

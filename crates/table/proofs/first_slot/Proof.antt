@@ -7,7 +7,7 @@ use native.Mathlib.Omega.{arith}
 use lib.ListN.{length}
 use borrow.Author.Tests.{not-true}
 use Rattle.mask.proofs.LoopsLaws.{Passed, passed-more, passed_here, passed-all}
-use Rattle.bytes.specs.EachByte.{Bytes}
+use Rattle.little.specs.EachByte.{Bytes}
 use Rattle.table.specs.Check.{first_slot}
 use Rattle.table.specs.Memory.{table_from}
 use Rattle.table.specs.TableInner.{slot_start}

@@ -6,8 +6,8 @@ use Prim.Native.Nat.{ℕ, ◌+◌, ◌*◌, ◌≤◌, ◌<◌, ◌-◌}
 use native.Mathlib.Omega.{arith}
 use lib.ListN.{length, set}
 use Rattle.mask.proofs.LoopsLaws.{Passed, passed_none, passed-more}
-use Rattle.bytes.specs.Little.{byte_at}
-use Rattle.bytes.specs.EachByte.{Bytes}
+use Rattle.little.specs.Little.{byte_at}
+use Rattle.little.specs.EachByte.{Bytes}
 use Rattle.rule.specs.declared.Rule.{Rule}
 use Rattle.rule.specs.Fill.{filled}
 use Rattle.rule.proofs.FillLaws.{filled_more}

@@ -1,7 +1,7 @@
 -- The masks that stand 4 bytes after a slot begins, of all slots.
 use mathlib.Core.Path.{ap, ◌∙◌}
 use native.Mathlib.Omega.{arith}
-use Rattle.bytes.specs.Little.{u32_at}
+use Rattle.little.specs.Little.{u32_at}
 use Rattle.rule.specs.declared.Rule.{Rule}
 use Rattle.table.proofs.ImageLaws.{column-is}
 use Rattle.table_rows.proofs.precedes.Statement.{statement}

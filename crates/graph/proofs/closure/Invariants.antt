@@ -1,0 +1,20 @@
+-- After k turns the masks are what each rule leads to through rules below k.
+use mathlib.Core.Path.{◌≡◌, refl, sym, ap, ◌∙◌, subst}
+use mathlib.Core.List.{List}
+use Prim.Native.Nat.{ℕ, ◌≤◌, ◌-◌, ◌+◌}
+use native.Mathlib.Nat.{le_antisymm}
+use native.Mathlib.Numerals.{add-one}
+use native.Mathlib.Omega.{arith}
+use lib.ListN.{length, get_or}
+use Rattle.mask.specs.Mask.{has}
+use Rattle.graph.specs.Graph.{leads}
+use Rattle.graph.specs.GraphInner.{Through}
+use borrow.Author.Rules.{rules}
+use Rattle.graph.proofs.closure.Given as goal
+
+-- q has what each rule leads to in p through rules below k
+abbrev pub Led : List ℕ → ℕ → List ℕ → Type 0
+Led p k q = (r s : ℕ) → has (get_or q r 0) s ≡ leads p k r s
+
+abbrev pub invariant-loop-k : goal.invariant-loop-k
+invariant-loop-k l = (l.k ≤ l.n) × (l.n ≤ 32) × (length l.q ≡ 32) × Led l.initial.q l.k l.q

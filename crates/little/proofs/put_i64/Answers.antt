@@ -1,0 +1,18 @@
+-- What its two callees ensure, one after the other.
+use mathlib.Core.Path.{ap, ◌∙◌}
+use Prim.Native.Nat.{ℕ}
+use mir.Facts.{to_z-of_z}
+use borrow.Author.Rules.{rules}
+use Rattle.little.specs.Put.{put}
+use Rattle.little.specs.Bytes.{unsigned, u64_bytes, i64_bytes}
+use Rattle.little.proofs.put_i64.Goals as goal
+
+pub returns : goal.returns
+unfolding i64_bytes
+returns c =
+    let d = c.before.before in
+    let h = d.before.before.before.before in
+    let a = h.args in
+    d.put_u64.ensures
+    ∙ ap (λ (x : ℕ). put a.out-1.now a.at (u64_bytes x))
+    (d.Unsigned-of.ensures ∙ ap unsigned (to_z-of_z h.ranges.z))

@@ -1,0 +1,15 @@
+-- The low half, and the high half after it.
+use Prim.Native.Nat.{◌/◌, ◌%◌}
+use native.Mathlib.Omega.{arith}
+use borrow.Author.Rules.{rules}
+use Rattle.little.specs.Bytes.{u16_bytes, u32_bytes}
+use Rattle.little.proofs.BytesLaws.{length_u16, put_halves}
+use Rattle.little.proofs.put_u32.Goals as goal
+
+pub returns : goal.returns
+unfolding u32_bytes
+returns c =
+    let h = c.before.before.before.before.before.before in
+    let a = h.args in
+    put_halves u16_bytes 2 length_u16 a.out-1.now a.at (a.x % 65536) (a.x / 65536) (omega arith)
+    h.put_u16.ensures c.put_u16-2.ensures

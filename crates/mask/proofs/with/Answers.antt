@@ -1,0 +1,7 @@
+-- One bit more.
+use Rattle.mask.proofs.MaskLaws.{has-with}
+use borrow.Author.Rules.{rules}
+use Rattle.mask.proofs.with.Goals as goal
+
+pub returns : goal.returns
+returns c = has-with c.args.m c.args.i c.requires
