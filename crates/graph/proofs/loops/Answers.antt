@@ -21,4 +21,4 @@ loop-x-preserved c =
 pub returns : goal.returns
 returns c =
     picked_every _ _ _ c.loop-x.invariant.2
-    (λ s l. ap (λ (v : ℕ). has v s) (get_or-eq_default c.args.rows.now 0 {n = s} (omega arith)) ∙ has-zero s)
+    (λ s l. ap (λ (v : ℕ). has v s) (get_or-eq_default c.args.rows 0 {n = s} (omega arith)) ∙ has-zero s)

@@ -29,16 +29,14 @@ loop-r-init c = (search rules, c.requires.1, upto-none _ _)
 
 pub loop-r-preserved : goal.loop-r-preserved
 loop-r-preserved c =
-    let i = c.before in
-    let at = i.loop-r in
-    let s = i.before.before.before.before.before.before in
-    let p = s.args.q.now in
+    let at = c.loop-r in
+    let p = c.args.q.now in
     let old : get_or at.q at.r 0 ≡ get_or p at.r 0 = at.invariant.2.rest _ (le_refl _) in
-    let go = join p s.args.k (get_or p s.args.k 0) at.r _ old in (
+    let go = join p c.args.k (get_or p c.args.k 0) at.r _ old in (
       omega arith,
       at.invariant.1,
       upto-store _ _ _ _ _ (omega arith) at.invariant.2
-          (elim i.if-has.branch [ then-has w ↦ go true (sym i.has.ensures ∙ w.if-has.true) _ w.more-is | else-has w ↦ go false (sym i.has.ensures ∙ w.0.left) _ w.1 ]),
+          (elim c.if-has.branch [ then-has w ↦ go true (sym c.has.ensures ∙ w.if-has.true) _ w.more-is | else-has w ↦ go false (sym c.has.ensures ∙ w.if-has.false) _ w.more-is ]),
     )
 
 pub returns : goal.returns

@@ -10,9 +10,7 @@ use Rattle.little.proofs.put_i64.Goals as goal
 pub returns : goal.returns
 unfolding i64_bytes
 returns c =
-    let d = c.before.before in
-    let h = d.before.before.before.before in
-    let a = h.args in
-    d.put_u64.ensures
-    ∙ ap (λ (x : ℕ). put a.out-1.now a.at (u64_bytes x))
-    (d.Unsigned-of.ensures ∙ ap unsigned (to_z-of_z h.ranges.z))
+    let a = c.args in
+    c.put_u64.ensures
+    ∙ ap (λ (x : ℕ). put a.out.now a.at (u64_bytes x))
+    (c.unsigned_of.ensures ∙ ap unsigned (to_z-of_z c.ranges.z))

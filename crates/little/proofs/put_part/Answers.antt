@@ -9,7 +9,6 @@ use Rattle.little.proofs.put_part.Goals as goal
 
 pub returns : goal.returns
 returns c =
-    let p = c.before.before in
-    let a = p.args in
+    let a = c.args in
     let e : a.from + a.n - a.from ≡ a.n = omega arith in
-    p.put_bytes.ensures ∙ ap (λ (n : ℕ). put a.out-1.now a.at (take n (drop a.from a.s.now))) e
+    c.put_bytes.ensures ∙ ap (λ (n : ℕ). put a.out.now a.at (take n (drop a.from a.s.now))) e

@@ -9,7 +9,6 @@ use Rattle.little.proofs.put_u32.Goals as goal
 pub returns : goal.returns
 unfolding u32_bytes
 returns c =
-    let h = c.before.before.before.before.before.before in
-    let a = h.args in
-    put_halves u16_bytes 2 length_u16 a.out-1.now a.at (a.x % 65536) (a.x / 65536) (omega arith)
-    h.put_u16.ensures c.put_u16-2.ensures
+    let a = c.args in
+    put_halves u16_bytes 2 length_u16 a.out.now a.at (a.x % 65536) (a.x / 65536) (omega arith)
+    c.put_u16.ensures c.put_u16-2.ensures

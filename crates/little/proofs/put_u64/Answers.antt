@@ -9,7 +9,6 @@ use Rattle.little.proofs.put_u64.Goals as goal
 pub returns : goal.returns
 unfolding u64_bytes
 returns c =
-    let h = c.before.before.before.before.before.before in
-    let a = h.args in
-    put_halves u32_bytes 4 length_u32 a.out-1.now a.at (a.x % 4294967296) (a.x / 4294967296) (omega arith)
-    h.put_u32.ensures c.put_u32-2.ensures
+    let a = c.args in
+    put_halves u32_bytes 4 length_u32 a.out.now a.at (a.x % 4294967296) (a.x / 4294967296) (omega arith)
+    c.put_u32.ensures c.put_u32-2.ensures
