@@ -3,7 +3,7 @@
 
 ghost use Rattle.std.specs.Prelude.{◌≡◌, ◌<◌};
 
-#[derive(Drop)]
+#[derive(Clone, Copy)]
 pub struct Test {
     pub left: u8,
     pub comparison: u8,
@@ -12,7 +12,7 @@ pub struct Test {
     pub constant: i64,
 }
 
-#[derive(Drop)]
+#[derive(Clone, Copy)]
 pub struct Assign {
     pub target: u8,
     pub operation: u8,

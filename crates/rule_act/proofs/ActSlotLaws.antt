@@ -29,8 +29,8 @@ use Rattle.rule_sums.proofs.PenceLaws.{alike}
 
 -- test j and assignment j
 module _ (s : List ℕ) (i j : ℕ) (l : j < 8) where
-  pub test_in : test_in s (i + 12 + 12 * j) ≡ test_at (slot_rule s i) j
-  test_in = sym (get_or-filled 8 no_test (λ x. test_in s (i + 12 + 12 * x)) 8 no_test j l)
+  pub test_in_lem : test_in s (i + 12 + 12 * j) ≡ test_at (slot_rule s i) j
+  test_in_lem = sym (get_or-filled 8 no_test (λ x. test_in s (i + 12 + 12 * x)) 8 no_test j l)
 
   pub assign_in_lem : assign_in s (i + 108 + 20 * j) ≡ assign_at (slot_rule s i) j
   assign_in_lem =

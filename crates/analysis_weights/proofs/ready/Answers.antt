@@ -20,7 +20,7 @@ returns-then-not-meets c =
     record {
       taken = λ l. (
         sym c.has.ensures ∙ c.if-has.true,
-        sym c.meets.ensures ∙ not-true _ c.if-not-meets.true,
+        sym c.meets.ensures ∙ c.if-not-meets.true,
       );
       passed = c.loop-x.invariant.1;
       bound = omega arith;
@@ -30,7 +30,7 @@ pub loop-x-preserved : goal.loop-x-preserved
 loop-x-preserved c = (
   omega arith,
   below_more _ _ c.loop-x.invariant.1 (λ e.
-      elim c.if-has.branch [ then-has+else-not-meets w ↦ sym w.meets-arg-1.ensures ∙ not-false _ w.meets.left | else-has w ↦ absurd (false≢true (sym w.if-has.false ∙ c.has.ensures ∙ e)) ]),
+      elim c.if-has.branch [ then-has+else-not-meets w ↦ sym w.meets.ensures ∙ w.if-not-meets.false | else-has w ↦ absurd (false≢true (sym w.if-has.false ∙ c.has.ensures ∙ e)) ]),
 )
 
 pub returns : goal.returns

@@ -1,0 +1,7 @@
+-- Who names itself in the closure reaches itself.
+use mathlib.Core.Path.{◌∙◌}
+use borrow.Author.Rules.{rules}
+use Rattle.analysis_masks.proofs.rows.at_fault.Goals as goal
+
+pub returns : goal.returns
+returns c r = c.loops.ensures r ∙ c.closure.ensures r r

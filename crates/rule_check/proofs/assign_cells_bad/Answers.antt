@@ -1,0 +1,19 @@
+use mathlib.Core.Path.{refl}
+use Prim.Native.Nat.{◌+◌, ◌*◌, ◌≤◌, ◌-◌}
+use Rattle.mask.proofs.LoopsLaws.{Sought, sought_none, sought_more, sought_all}
+use Rattle.rule.specs.Numbers.{assign_cell_bad}
+use Rattle.rule_read.specs.Parts.{assign_in}
+use borrow.Author.Rules.{rules}
+use Rattle.rule_check.proofs.assign_cells_bad.Goals as goal
+
+pub loop-j-init : goal.loop-j-init
+loop-j-init c = (search rules, sought_none)
+
+pub loop-j-preserved : goal.loop-j-preserved
+loop-j-preserved c = (
+      search rules,
+      rw (c.assign_cell_bad-bad.ensures, c.read_assign-x.ensures) (sought_more c.loop-j.invariant.1 refl),
+    )
+
+pub returns : goal.returns
+returns c = sought_all c.loop-j.invariant.1 c.loop-j.invariant.0 c.loop-j-test.false
