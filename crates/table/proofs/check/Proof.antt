@@ -18,21 +18,21 @@ use borrow.Author.Rules.{rules}
 use Rattle.table.proofs.check.Statement.{statement}
 use Rattle.table.proofs.check.Tie as tie
 
-returns : tie.Need-returns
+returns : tie.Need-returns-then-sizes_bad
 unfolding check_of table_from
-returns c = rw (← c.before.sizes-bad.ensures, c.if1.true)
+returns c = rw (← c.sizes_bad.ensures, c.if-sizes_bad.true)
 
-module _ (c : tie.Else1) where
+module _ (c : tie.Else-sizes_bad) where
   abbrev image : List ℕ
-  image = c.before.before.before.before.args.s.now
+  image = c.args.s.now
 
   sizes-good : sizes_bad (byte_at image 1) (byte_at image 2) ≡ false
-  sizes-good = sym c.before.sizes-bad.ensures ∙ c.if1.false
+  sizes-good = sym c.sizes_bad.ensures ∙ c.if-sizes_bad.false
 
   sizes : Sized (byte_at image 1) (byte_at image 2)
   sizes = sized (byte_at image 1) (byte_at image 2) sizes-good
 
-judge-requires : tie.Need-judge-requires
+judge-requires : tie.Need-judge-a-requires
 judge-requires c κs = (
   record {
     long = search rules;
@@ -44,30 +44,27 @@ judge-requires c κs = (
   refl,
 )
 
-returns-2 : tie.Need-returns-2
+returns-2 : tie.Need-returns-then-a-ne0
 unfolding table_from
 returns-2 c =
-    let j = c.before.before in
-    let d = j.before.before.before in
-    j.judge.ensures.0
-    ∙ judged-bad (table_from (image d)) (sizes-good d)
-    (λ z. c.if2.true (ap (λ (a : Answer). a.number) j.judge.ensures.0 ∙ z))
+    c.judge-a.ensures.0
+    ∙ judged-bad (table_from (image c.before.before.before.before.before)) (sizes-good c.before.before.before.before.before)
+    (λ z. c.if-a-ne0.true (ap (λ (a : Answer). a.number) c.judge-a.ensures.0 ∙ z))
 
 -- past the second test no rule has a number
-rules-good : (c : tie.Else2)
+rules-good : (c : tie.Else-a-ne0)
     → let t = table_from (image c.before.before.before.before.before) in ltb (first_bad t) t.n ≡ false
 rules-good c =
-    let j = c.before.before in
-    judged-good (table_from (image j.before.before.before)) (ap (λ (a : Answer). a.number) (sym j.judge.ensures.0) ∙ c.if2.false)
+    judged-good (table_from (image c.before.before.before.before.before)) (ap (λ (a : Answer). a.number) (sym c.judge-a.ensures.0) ∙ c.if-a-ne0.false)
 
-module _ (c : tie.After-count) where
-  few : c.count.result ≤ 32
-  few = omega (arith, c.count.ensures.0, (sizes c.before.before.before.before.before.before).rules)
+module _ (c : tie.After-count-m) where
+  few : c.count-m.result ≤ 32
+  few = omega (arith, c.count-m.ensures.0, (sizes c.before.before.before.before.before.before).rules)
 
-  counted : c.count.result ≡ byte_at (image c.before.before.before.before.before.before) 1
-  counted = c.count.ensures.0
+  counted : c.count-m.result ≡ byte_at (image c.before.before.before.before.before.before) 1
+  counted = c.count-m.ensures.0
 
-first-slot-requires : tie.Need-first-slot-requires
+first-slot-requires : tie.Need-first_slot-j-requires
 first-slot-requires c κs = (search rules, counted c.before, few c.before)
 
 -- whether 10 applies
@@ -75,45 +72,42 @@ abbrev circular : Table → Bool
 circular t = cyclic t.n (precedes_of t)
 
 -- past two tests: the slots, then the cycle
-rest : (c : tie.After-first-slot)
+rest : (c : tie.After-first_slot-j)
     → let s = image c.before.before.before.before.before.before.before.before in
     check_of (table_from s)
-    ≡ cond (ltb c.first_slot.result 32) (answer 7 c.first_slot.result) (cond (circular (table_from s)) (answer 10 255) done)
+    ≡ cond (ltb c.first_slot-j.result 32) (answer 7 c.first_slot-j.result) (cond (circular (table_from s)) (answer 10 255) done)
 unfolding check_of table_from
 rest c =
-    let e = c.before.before.before in
-    rw (sizes-good e.before.before.before.before.before, rules-good e, ← c.first_slot.ensures)
+    rw (sizes-good c.before.before.before.before.before.before.before.before, rules-good c.before.before.before, ← c.first_slot-j.ensures)
 
-returns-3 : tie.Need-returns-3
-returns-3 c = sym (rest c.before ∙ rw (lt-ltb c.before.first_slot.result 32 c.if3.true))
+returns-3 : tie.Need-returns-then-j-lt32
+returns-3 c = sym (rest c.before ∙ rw (lt-ltb c.first_slot-j.result 32 c.if-j-lt32.true))
 
-row-cyclic-requires : tie.Need-row-cyclic-requires
+row-cyclic-requires : tie.Need-row_cyclic-requires
 row-cyclic-requires c κs = few c.before.before.before
 
-abbrev table : tie.After-row-cyclic → Table
+abbrev table : tie.After-row_cyclic → Table
 table c = table_from (image c.before.before.before.before.before.before.before.before.before.before)
 
 -- the row that was filled in on the way
-circles : (c : tie.After-row-cyclic) → circular (table c) ≡ c.row-cyclic.result
+circles : (c : tie.After-row_cyclic) → circular (table c) ≡ c.row_cyclic.result
 unfolding table_from
 circles c =
-    let e = c.before.before.before.before.before in
-    sym (c.row-cyclic.ensures
-    ∙ ap₂ cyclic (counted c.before.before.before.before) (e.before.before.judge.ensures.1 e.if2.false))
+    sym (c.row_cyclic.ensures
+    ∙ ap₂ cyclic (counted c.before.before.before.before) (c.judge-a.ensures.1 c.if-a-ne0.false))
 
-last : (c : tie.After-row-cyclic) → check_of (table c) ≡ cond c.row-cyclic.result (answer 10 255) done
+last : (c : tie.After-row_cyclic) → check_of (table c) ≡ cond c.row_cyclic.result (answer 10 255) done
 last c =
-    let d = c.before in
-    rest d.before ∙ rw (le-ltb d.before.first_slot.result 32 d.if3.false, circles c)
+    rest c.before.before ∙ rw (le-ltb c.first_slot-j.result 32 c.if-j-lt32.false, circles c)
 
-returns-4 : tie.Need-returns-4
-returns-4 c = sym (last c.before ∙ rw c.if4.true)
+returns-4 : tie.Need-returns-then-row_cyclic
+returns-4 c = sym (last c.before ∙ rw c.if-row_cyclic.true)
 
-returns-5 : tie.Need-returns-5
-returns-5 c = sym (last c.before ∙ rw c.if4.false)
+returns-5 : tie.Need-returns
+returns-5 c = sym (last c.before ∙ rw c.if-row_cyclic.false)
 
-pub check-spec : {M : Type 1} → statement M
-check-spec =
+pub check_spec : {M : Type 1} → statement M
+check_spec =
     tie.close
     (tie.spec
     (λ c. search rules)

@@ -24,122 +24,112 @@ use borrow.Author.Rules.{rules}
 use Rattle.table.proofs.judge.Statement.{statement}
 use Rattle.table.proofs.judge.Tie as tie
 
-abbrev invariant-loop : tie.invariant-loop
-invariant-loop s n k row₀ names₀ i₀ i-end row names i =
+abbrev invariant-loop-i : tie.invariant-loop-i
+invariant-loop-i s n k row₀ names₀ i₀ i-end row names i =
     (i ≤ i-end) × (i-end ≡ n) × (length names ≡ 64) × Passed (λ x. not_zero (number_at (table_from s) x)) i
     × Named names (table_from s).rules i
     × (row ≡ filled 32 0 (λ x. (rule_at (table_from s) x).precedes) i)
 
-abbrev decreases-loop : tie.decreases-loop
-decreases-loop s n k row₀ names₀ i₀ i-end row names i = i-end - i
+abbrev decreases-loop-i : tie.decreases-loop-i
+decreases-loop-i s n k row₀ names₀ i₀ i-end row names i = i-end - i
 
-loop-holds : tie.Need-loop-init invariant-loop decreases-loop
-loop-holds c = (search rules, c.count.ensures.0, search rules, passed_none, named_none _ _, c.before.before.requires.1)
+loop-holds : tie.Need-loop-i-init invariant-loop-i decreases-loop-i
+loop-holds c = (search rules, c.count-i-end.ensures.0, search rules, passed_none, named_none _ _, c.requires.1)
 
-module _ (c : tie.In-loop invariant-loop decreases-loop) where
-  abbrev start : tie.Start invariant-loop decreases-loop
+module _ (c : tie.In-loop-i invariant-loop-i decreases-loop-i) where
+  abbrev start : tie.Start invariant-loop-i decreases-loop-i
   start = c.before.before.before.before
 
   abbrev image : List ℕ
   image = start.args.s.now
 
   bytes : Bytes image
-  bytes = record { small = λ j. omega (arith, c.before.before.before.shared-slice-known.given j) }
+  bytes = record { small = λ j. omega (arith, c.shared_slice_known-1.given j) }
 
-  small : c.before.loop.i < 32
-  small = omega (arith, c.loop-test.true, c.before.loop.invariant.1, start.pre.0.few-rules)
+  small : c.loop-i.i < 32
+  small = omega (arith, c.loop-i-test.true, c.loop-i.invariant.1, start.requires.0.few-rules)
 
-  low : c.before.loop.i < byte_at image 1
-  low = omega (arith, c.loop-test.true, c.before.loop.invariant.1, start.pre.0.rules)
+  low : c.loop-i.i < byte_at image 1
+  low = omega (arith, c.loop-i-test.true, c.loop-i.invariant.1, start.requires.0.rules)
 
-number-in-requires : tie.Need-number-in-requires invariant-loop decreases-loop
+number-in-requires : tie.Need-number_in-c-requires invariant-loop-i decreases-loop-i
 number-in-requires c κs =
-    let d = c.before.before.before.before in
-    let p = (start d).requires.0 in
-    (slot_lies (image d) d.before.loop.i (omega (arith, small d, p.long)), p.few-rules, p.few-cells)
+    let p = (start c.before.before.before.before).requires.0 in
+    (slot_lies (image c.before.before.before.before) c.loop-i.i (omega (arith, small c.before.before.before.before, p.long)), p.few-rules, p.few-cells)
 
 -- the number that was given is the rule's, after the rules before it
-module _ (c : tie.After-number-in invariant-loop decreases-loop) where
-  abbrev turn : tie.In-loop invariant-loop decreases-loop
+module _ (c : tie.After-number_in-c invariant-loop-i decreases-loop-i) where
+  abbrev turn : tie.In-loop-i invariant-loop-i decreases-loop-i
   turn = c.before.before.before.before.before
 
-  number : let s = image turn in let i = turn.before.loop.i in
-      c.number_in.result ≡ rule_number (start turn).args.n (start turn).args.k (table_from s).rules i (rule_from s i)
+  number : let s = image turn in let i = turn.loop-i.i in
+      c.number_in-c.result ≡ rule_number (start turn).args.n (start turn).args.k (table_from s).rules i (rule_from s i)
   number =
-      let t = c.before in
-      let h = t.before.before in
-      let l = h.before in
       let s = image turn in
       let a = turn.before in
-      let i = a.loop.i in
+      let i = a.loop-i.i in
       let n = (start turn).args.n in
       let k = (start turn).args.k in
-      c.number_in.ensures
+      c.number_in-c.ensures
       ∙ ap (λ (b : Bool). number_with n k b (rule_from s i))
-      (t.taken.ensures
-      ∙ ap₂ (taken_in a.loop.names i) (l.u64-at.ensures ∙ low_word s i) (h.u64-at2.ensures ∙ high_word s i))
-      ∙ number-named n k a.loop.names (table_from s).rules i (rule_from s i) a.loop.inv.4 (from_bytes s (bytes turn) i)
+      (c.taken.ensures
+      ∙ ap₂ (taken_in a.loop-i.names i) (c.u64_at-low.ensures ∙ low_word s i) (c.u64_at-high.ensures ∙ high_word s i))
+      ∙ number-named n k a.loop-i.names (table_from s).rules i (rule_from s i) a.loop-i.invariant.4 (from_bytes s (bytes turn) i)
       (from-long s i)
 
-  at-number : number_at (table_from (image turn)) turn.before.loop.i ≡ c.number_in.result
+  at-number : number_at (table_from (image turn)) turn.loop-i.i ≡ c.number_in-c.result
   at-number =
       let s = image turn in
-      let i = turn.before.loop.i in
-      let p = (start turn).pre.0 in
+      let i = turn.loop-i.i in
+      let p = (start turn).requires.0 in
       number-from s i (small turn)
       ∙ ap₂ (λ (n k : ℕ). rule_number n k (table_from s).rules i (rule_from s i)) (sym p.rules) (sym p.cells)
       ∙ sym number
 
-returns : tie.Need-returns invariant-loop decreases-loop
+returns : tie.Need-returns-then-c-ne0 invariant-loop-i decreases-loop-i
 unfolding table_from
 returns c =
-    let w = c.before in
-    let d = turn w in
-    let l = d.before.loop in (
-      sym (judged-here (table_from (image d)) l.i l.inv.3 w.number_in.result (low d) (at-number w) c.if1.true),
-      λ e. absurd (c.if1.true e),
+    let d = turn c.before in
+    let l = d.loop-i in (
+      sym (judged-here (table_from (image d)) l.i l.invariant.3 c.number_in-c.result (low d) (at-number c.before) c.if-c-ne0.true),
+      λ e. absurd (c.if-c-ne0.true e),
     )
 
-loop-again : tie.Need-loop-preserved invariant-loop decreases-loop
+loop-again : tie.Need-loop-i-preserved invariant-loop-i decreases-loop-i
 loop-again c =
-    let b = c.before in
-    let w = b.before in
-    let h = w.before.before.before in
-    let l = h.before in
-    let d = turn w in
+    let d = turn c.before.before.before in
     let s = image d in
     let a = d.before in
-    let i = a.loop.i in (
-      omega (arith, d.loop-test.taken),
-      a.loop.inv.1,
+    let i = a.loop-i.i in (
+      omega (arith, d.loop-i-test.true),
+      a.loop-i.invariant.1,
       search rules,
-      passed-more a.loop.inv.3 (ap not_zero (at-number w ∙ b.if1.false)),
-      subst₂ (λ (x y : ℕ). Named (set (set a.loop.names (2 * i) x) (2 * i + 1) y) (table_from s).rules (i + 1))
-          (sym (l.u64-at.ensures ∙ low_word s i)) (sym (h.u64-at2.ensures ∙ high_word s i))
-          (named_more (start d).args.n (start d).args.k a.loop.names (table_from s).rules i (rule_from s i)
-          a.loop.inv.4 a.loop.inv.2 (small d) (rule-from s i (small d)) (from_bytes s (bytes d) i) (from-long s i)
-          (sym (number w) ∙ b.if1.false)),
-      rw (a.loop.inv.5, c.u32-at.ensures ∙ ap (λ (r : Rule). r.precedes) (sym (rule-from s i (small d))))
+      passed-more a.loop-i.invariant.3 (ap not_zero (at-number c.before.before.before ∙ c.if-c-ne0.false)),
+      subst₂ (λ (x y : ℕ). Named (set (set a.loop-i.names (2 * i) x) (2 * i + 1) y) (table_from s).rules (i + 1))
+          (sym (c.u64_at-low.ensures ∙ low_word s i)) (sym (c.u64_at-high.ensures ∙ high_word s i))
+          (named_more (start d).args.n (start d).args.k a.loop-i.names (table_from s).rules i (rule_from s i)
+          a.loop-i.invariant.4 a.loop-i.invariant.2 (small d) (rule-from s i (small d)) (from_bytes s (bytes d) i) (from-long s i)
+          (sym (number c.before.before.before) ∙ c.if-c-ne0.false)),
+      rw (a.loop-i.invariant.5, c.u32_at.ensures ∙ ap (λ (r : Rule). r.precedes) (sym (rule-from s i (small d))))
           (filled_more 32 0 (λ x. (rule_at (table_from s) x).precedes) i (small d)),
     )
 
-returns-2 : tie.Need-returns-2 invariant-loop decreases-loop
+returns-2 : tie.Need-returns invariant-loop-i decreases-loop-i
 unfolding table_from
 returns-2 c =
-    let z = c.before.before.before.before in
-    let s = z.args.s.now in
-    let l = c.before.loop in
-    let e : l.i ≡ byte_at s 1 = omega (arith, z.requires.0.rules) in (
-      sym (judged-none (table_from s) l.i l.invariant.3 (omega (arith, z.requires.0.rules))),
+    let s = c.args.s.now in
+    let l = c.loop-i in
+    let e : l.i ≡ byte_at s 1 = omega (arith, c.requires.0.rules) in (
+      sym (judged-none (table_from s) l.i l.invariant.3 (omega (arith, c.requires.0.rules))),
       λ _. l.invariant.5 ∙ ap (filled 32 0 (λ x. (rule_at (table_from s) x).precedes)) e,
     )
 
-pub judge-spec : {M : Type 1} → statement M
-judge-spec =
+pub judge_spec : {M : Type 1} → statement M
+judge_spec =
     tie.close
     (tie.spec
-    invariant-loop
-    decreases-loop
+    invariant-loop-i
+    decreases-loop-i
     (λ c κs. search rules)
     loop-holds
     (λ c. omega (arith, small c))
@@ -147,7 +137,7 @@ judge-spec =
     (λ c. omega (arith, small c))
     (λ c κs. omega (arith, small c, (start c).requires.0.long))
     (λ c. omega (arith, small c.before))
-    (λ c κs. omega (arith, small c.before, (start c.before).pre.0.long))
+    (λ c κs. omega (arith, small c.before, (start c.before).requires.0.long))
     (λ c κs. omega (arith, small c.before.before.before))
     number-in-requires
     (λ c. omega (arith, small (turn c.before)))
@@ -160,9 +150,9 @@ judge-spec =
     (λ c. omega (arith, small (turn c.before)))
     (λ c. omega (arith, small (turn c.before)))
     (λ c. omega (arith, small (turn c.before)))
-    (λ c κs. omega (arith, small (turn c.before), (start (turn c.before)).pre.0.long))
+    (λ c κs. omega (arith, small (turn c.before), (start (turn c.before)).requires.0.long))
     (λ c. omega (arith, small (turn c.before.before)))
-    (λ c. omega (arith, small (turn c.before.before)))
+    (λ c. omega (arith, small (turn c.before.before.before)))
     (λ c. search rules)
     (λ c. search rules)
     loop-again
