@@ -15,28 +15,28 @@ use Rattle.analysis_masks.proofs.AlikeLaws.{may-within, clash-within, row_within
 use Rattle.analysis_masks.proofs.ReportingLaws.{faulty-iff, marks_of_lem, cleared-iff}
 use Rattle.analysis_marks.proofs.MarkedLaws.{marks_twos, first_alike}
 use borrow.Author.Rules.{rules}
-use Rattle.analysis_masks.proofs.rows.judged.Goals as goal
-use Rattle.analysis_masks.proofs.rows.judged.Goals.{After-clashes-clash, After-turned-ahead, Start}
+use Rattle.analysis_masks.proofs.rows.judged.Statement.{statement}
+use Rattle.analysis_masks.proofs.rows.judged.Tie as tie
 
 -- the rows that are lent
-abbrev lent : Start → Masks
+abbrev lent : tie.Start → Masks
 lent s =
     let a = s.args in
     masks_in a.n a.watch.now a.reads.now a.writes.now a.precedes.now
 
-struck : (c : After-clashes-clash) → c.clashes-clash.result ≡ clashes (lent c.before.before)
+struck : (c : tie.After-clashes-clash) → c.clashes-clash.result ≡ clashes (lent c.before.before)
 struck c = c.clashes-clash.ensures ∙ clashes_in_lem (lent c.before.before)
 
 -- who does not commute with whom is mutual
-both : (c : After-clashes-clash) → Mutual c.clashes-clash.result
+both : (c : tie.After-clashes-clash) → Mutual c.clashes-clash.result
 both c = subst Mutual (sym (struck c)) (clashes_mutual (lent c.before.before) c.requires.0)
 
 -- the graphs that are found
-abbrev graphs : After-turned-ahead → Graphs
+abbrev graphs : tie.After-turned-ahead → Graphs
 graphs c =
     graphs_in c.args.n c.triggers-trig.result c.turned-ahead.result c.clashes-clash.result
 
-drawn : (c : After-turned-ahead) → Drawn (lent c.before.before.before.before.before.before) (graphs c)
+drawn : (c : tie.After-turned-ahead) → Drawn (lent c.before.before.before.before.before.before) (graphs c)
 drawn c =
     let trig : c.triggers-trig.result ≡ triggers (lent c.before.before.before.before.before.before) = c.triggers-trig.ensures ∙ triggers_in_lem (lent c.before.before.before.before.before.before) in
     record {
@@ -49,32 +49,32 @@ drawn c =
           trig c.closure-before.ensures (struck c.before.before.before.before));
     }
 
-pub triggers-trig-requires : goal.triggers-trig-requires
-triggers-trig-requires c =
+triggers-requires : tie.Need-triggers-trig-requires
+triggers-requires c κs =
     (c.requires.0.few, subst (Among c.args.n) (sym (may_in (lent c))) (may-within (lent c) c.requires.0))
 
-pub clashes-clash-requires : goal.clashes-clash-requires
-clashes-clash-requires c =
+clashes-requires : tie.Need-clashes-clash-requires
+clashes-requires c κs =
     (
       c.requires.0.few,
       subst (λ (f : ℕ → ℕ → Bool). Among c.args.n (λ r x. not (f r x))) (sym (commute_in (lent c.before))) (clash-within (lent c.before) c.requires.0),
     )
 
-pub turned-ahead-requires : goal.turned-ahead-requires
-turned-ahead-requires c =
+turned-requires : tie.Need-turned-ahead-requires
+turned-requires c κs =
     (c.requires.0.few, row_within (lent c.before.before.before.before.before) c.requires.0 c.closure-before.result c.closure-before.ensures)
 
-pub filled-requires : goal.filled-requires
-filled-requires c =
+filled-requires : tie.Need-filled-requires
+filled-requires c κs =
     (c.requires.0.few, both c.before.before.before.before.before.before.before.before.before.before, c.requires.1)
 
-pub first_failing-f-requires : goal.first_failing-f-requires
-first_failing-f-requires c =
-    (both c.before.before.before.before.before.before.before.before.before.before.before.before.before.before.before, marks_twos (graphs c.before.before.before.before.before.before.before.before.before.before.before) c.filled.new.1.1.1.1.0 c.filled.ensures.1)
+first-failing-requires : tie.Need-first_failing-f-requires
+first-failing-requires c κs =
+    (both c.before.before.before.before.before.before.before.before.before.before.before.before.before.before.before, marks_twos (graphs c.before.before.before.before.before.before.before.before.before.before.before) c.filled.new.q c.filled.ensures.1)
 
-pub returns : goal.returns
+returns : tie.Need-returns
 returns c =
-    let q = c.filled.new.1.1.1.1.0 in
+    let q = c.filled.new.q in
     let k = c.filled.ensures.1 in
     let d = drawn c.before.before.before.before.before.before.before.before.before.before.before.before in
     let on = faulty-iff (lent c.before.before.before.before.before.before.before.before.before.before.before.before.before.before.before.before.before.before) c.requires.0 c.at_fault-faulty.result _ _ d.trig refl c.at_fault-faulty.ensures in
@@ -89,3 +89,17 @@ returns c =
       failing = c.failing-c.ensures;
       first = first_alike d.alike c.first_failing-f.ensures;
     }
+
+pub judged_spec : {M : Type 1} → statement M
+judged_spec =
+    tie.close
+    (tie.spec
+    triggers-requires
+    clashes-requires
+    (λ c κs. search rules)
+    turned-requires
+    (λ c κs. search rules)
+    filled-requires
+    (λ c κs. search rules)
+    first-failing-requires
+    returns)
