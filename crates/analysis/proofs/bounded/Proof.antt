@@ -15,38 +15,33 @@ use borrow.Author.Rules.{rules}
 use Rattle.analysis.proofs.bounded.Statement.{statement}
 use Rattle.analysis.proofs.bounded.Tie as tie
 
-lies : (c : tie.After-count) → SoundBytes c.before.before.before.args.s.now c.count.result
+lies : (c : tie.After-count-n) → SoundBytes c.args.s.now c.count-n.result
 lies c =
-    let s = c.before.before.before in
-    record { size = s.requires.0; sound = s.requires.1; count = c.count.ensures.0 }
+    record { size = c.requires.0; sound = c.requires.1; count = c.count-n.ensures.0 }
 
-watches-requires : tie.Need-watches-requires
+watches-requires : tie.Need-watches-watch-requires
 watches-requires c κs = let h = lies c in (h.size, h.count, few-from _ h)
 
 -- the rules that are lent
-abbrev table : tie.After-writes → Masks
-table c = masks_of (table_from c.before.before.before.before.before.args.s.now)
+abbrev table : tie.After-writes-written → Masks
+table c = masks_of (table_from c.args.s.now)
 
-abbrev lent : tie.After-writes → Masks
-lent c = triggering c.before.before.count.result c.before.watches.result c.writes.result
+abbrev lent : tie.After-writes-written → Masks
+lent c = triggering c.count-n.result c.watches-watch.result c.writes-written.result
 
-lent-are : (c : tie.After-writes) → lent c ≡ triggering (table c).n (table c).watch (table c).writes
-lent-are c = triggering-from _ (lies c.before.before) c.before.watches.ensures c.writes.ensures
+lent-are : (c : tie.After-writes-written) → lent c ≡ triggering (table c).n (table c).watch (table c).writes
+lent-are c = triggering-from _ (lies c.before.before) c.watches-watch.ensures c.writes-written.ensures
 
 bound-requires : tie.Need-bound-requires
 bound-requires c κs =
-    let w = c.before.before in
-    let k = w.before.before in
-    let s = k.before.before.before in
-    let bytes : Bytes s.args.s.now = record { small = λ j. omega (arith, k.before.before.shared-slice-known.given j) } in
-    subst Orderly (sym (lent-are w)) (triggering-orderly (table w) (orderly_from _ (lies k) bytes))
+    let bytes : Bytes c.args.s.now = record { small = λ j. omega (arith, c.shared_slice_known-1.given j) } in
+    subst Orderly (sym (lent-are c.before.before)) (triggering-orderly (table c.before.before) (orderly_from _ (lies c.before.before.before.before) bytes))
 
 returns : tie.Need-returns
 returns c =
-    let w = c.before.before.before in
-    let set = w.before.before.before.before.before.args.set in
-    bounded_in (table w) set c.bound.result
-    (subst (λ (m : Masks). Bounded m set c.bound.result) (lent-are w) c.bound.ensures)
+    let set = c.args.set in
+    bounded_in (table c.before.before.before) set c.bound.result
+    (subst (λ (m : Masks). Bounded m set c.bound.result) (lent-are c.before.before.before) c.bound.ensures)
 
 pub bounded_spec : {M : Type 1} → statement M
 bounded_spec =

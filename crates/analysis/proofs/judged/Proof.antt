@@ -14,47 +14,36 @@ use borrow.Author.Rules.{rules}
 use Rattle.analysis.proofs.judged.Statement.{statement}
 use Rattle.analysis.proofs.judged.Tie as tie
 
-lies : (c : tie.After-count) → SoundBytes c.before.before.before.args.s.now c.count.result
+lies : (c : tie.After-count-n) → SoundBytes c.args.s.now c.count-n.result
 lies c =
-    let s = c.before.before.before in
-    record { size = s.requires.0; sound = s.requires.1; count = c.count.ensures.0 }
+    record { size = c.requires.0; sound = c.requires.1; count = c.count-n.ensures.0 }
 
-watches-requires : tie.Need-watches-requires
+watches-requires : tie.Need-watches-watch-requires
 watches-requires c κs = let h = lies c in (h.size, h.count, few-from _ h)
 
-precedes-requires : tie.Need-precedes-requires
+precedes-requires : tie.Need-precedes-precedes-requires
 precedes-requires c κs = watches-requires c.before.before.before κs
 
 -- the rows that are lent
-abbrev lent : tie.After-precedes → Masks
+abbrev lent : tie.After-precedes-precedes → Masks
 lent c =
-    let w = c.before in
-    let r = w.before in
-    let t = r.before in
-    masks_in t.before.count.result t.watches.result r.reads.result w.writes.result c.precedes.result
+    masks_in c.count-n.result c.watches-watch.result c.reads-read.result c.writes-written.result c.precedes-precedes.result
 
-lent-are : (c : tie.After-precedes) → lent c ≡ masks_of (table_from c.before.before.before.before.before.before.before.args.s.now)
+lent-are : (c : tie.After-precedes-precedes) → lent c ≡ masks_of (table_from c.args.s.now)
 lent-are c =
-    let w = c.before in
-    let r = w.before in
-    let t = r.before in
-    rows-from _ (lies t.before) t.watches.ensures r.reads.ensures w.writes.ensures c.precedes.ensures
+    rows-from _ (lies c.before.before.before.before) c.watches-watch.ensures c.reads-read.ensures c.writes-written.ensures c.precedes-precedes.ensures
 
 judged-requires : tie.Need-judged-requires
 judged-requires c κs =
-    let p = c.before.before.before.before.before in
-    let k = p.before.before.before.before in
-    let s = k.before.before.before in
-    let bytes : Bytes s.args.s.now = record { small = λ j. omega (arith, k.before.before.shared-slice-known.given j) } in
-    (subst Orderly (sym (lent-are p)) (orderly_from _ (lies k) bytes), s.requires.2)
+    let bytes : Bytes c.args.s.now = record { small = λ j. omega (arith, c.shared_slice_known-1.given j) } in
+    (subst Orderly (sym (lent-are c.before.before.before.before.before)) (orderly_from _ (lies c.before.before.before.before.before.before.before.before.before) bytes), c.requires.2)
 
 returns : tie.Need-returns
 returns c =
-    let p = c.before.before.before.before.before.before in
-    subst (λ (m : Masks). Reported m (report_in c.judged.result c.judged.new.1.1.1.1.1.0)) (lent-are p) c.judged.ensures
+    subst (λ (m : Masks). Reported m (report_in c.judged.result c.judged.new.marks)) (lent-are c.before.before.before.before.before.before) c.judged.ensures
 
-pub judged-spec : {M : Type 1} → statement M
-judged-spec =
+pub judged_spec : {M : Type 1} → statement M
+judged_spec =
     tie.close
     (tie.spec
     (λ c. search rules)

@@ -6,17 +6,13 @@ use lib.ListN.{get_or}
 use borrow.Author.Rules.{rules}
 use Rattle.mask.specs.Mask.{has, meet}
 use Rattle.mask.proofs.LoopsLaws.{mask_of-unique}
-use Rattle.machine_step.proofs.woken.Statement.{statement}
-use Rattle.machine_step.proofs.woken.Tie as tie
+use Rattle.machine_step.proofs.woken.Goals as goal
 
-returns : tie.Need-returns
+pub returns : goal.returns
 returns c =
-    let a = c.before.before.args in
+    let a = c.args in
     let row = a.row.now in
     mask_of-unique 32 (λ x. has a.waiting x || meet (get_or row x 0) a.m) c.union.result (omega arith)
     (λ x l.
     c.union.ensures x
-    ∙ ap (λ (b : Bool). has a.waiting x || b) (c.before.touching.ensures x l))
-
-pub woken-spec : {M : Type 1} → statement M
-woken-spec = tie.close (tie.spec (λ c κs. search rules) (λ c κs. search rules) returns)
+    ∙ ap (λ (b : Bool). has a.waiting x || b) (c.touching.ensures x l))
