@@ -11,7 +11,7 @@ use analysis_masks::Report;
 use analysis_pairs::Masks;
 
 // Four masks of a rule: the cells that it watches, reads and writes, and the rules that it precedes.
-#[derive(Drop)]
+#[derive(Clone, Copy)]
 pub struct Record {
     pub watch: u32,
     pub reads: u32,

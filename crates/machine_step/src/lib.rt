@@ -11,7 +11,7 @@ ghost use Rattle.machine_spec.specs.State.{cell_bad};
 ghost use Rattle.machine_step.specs.MachineStepInner.{state_of, state_bad_by, effect_by};
 
 // Who waits, and who has a fault mark: a state without its cells.
-#[derive(Drop)]
+#[derive(Clone, Copy)]
 pub struct StateMasks {
     pub waiting: u32,
     pub faults: u32,

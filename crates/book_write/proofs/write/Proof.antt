@@ -22,18 +22,17 @@ use borrow.Author.Rules.{rules}
 use Rattle.book_write.proofs.write.Statement.{statement}
 use Rattle.book_write.proofs.write.Tie as tie
 
-returns : tie.Need-returns
+returns : tie.Need-returns-then-a-ne0
 returns c =
-    let k = c.before.before in
-    let a = k.before.before.args in
-    let e = k.check.ensures in
-    sym (write-refused (table_from a.table.now) a.out.now (λ z. c.if1.true (ap (λ (x : Answer). x.number) e ∙ z))
+    let a = c.args in
+    let e = c.check-a.ensures in
+    sym (write-refused (table_from a.table.now) a.out.now (λ z. c.if-a-ne0.true (ap (λ (x : Answer). x.number) e ∙ z))
     ∙ ap (λ (x : Answer). (written x.number x.place 0, a.out.now)) (sym e))
 
 -- past the checks: the table, and that it is sound
-module _ (c : tie.After-count) where
+module _ (c : tie.After-count-n) where
   abbrev start : tie.Start
-  start = c.before.before.before.before.before.before
+  start = c.before.before.before.before.before.before.before
 
   abbrev T : Table
   T = table_from start.args.table.now
@@ -43,75 +42,58 @@ module _ (c : tie.After-count) where
 
   none : (check_of T).number ≡ 0
   none =
-      let d = c.before.before in
-      sym (ap (λ (a : Answer). a.number) d.before.before.check.ensures) ∙ d.if1.false
+      sym (ap (λ (a : Answer). a.number) c.check-a.ensures) ∙ c.if-a-ne0.false
 
-  counted : c.count.result ≡ T.n
-  counted = c.count.ensures.0 ∙ count-from start.args.table.now
+  counted : c.count-n.result ≡ T.n
+  counted = c.count-n.ensures.0 ∙ count-from start.args.table.now
 
-  rules-ready : Ready c.count.result T.rules
+  rules-ready : Ready c.count-n.result T.rules
   rules-ready = subst (λ (n : ℕ). Ready n T.rules) (sym counted) (ready T (sound-by T none))
 
-end-of-requires : tie.Need-end-of-requires
+end-of-requires : tie.Need-end_of-size-requires
 end-of-requires c κs = ((rules-ready c.before).few, search rules)
 
-size_is : (c : tie.After-end-of) → c.end_of_lem.result ≡ length (book_of (T c.before.before))
+size_is : (c : tie.After-end_of-size) → c.end_of-size.result ≡ length (book_of (T c.before.before))
 size_is c =
-    let d = c.before.before in
-    c.end_of_lem.ensures ∙ (ap (λ (n : ℕ). start_at n (sizes_of (T d).rules) n) (counted d) ∙ sym (length-book (T d)))
+    c.end_of-size.ensures ∙ (ap (λ (n : ℕ). start_at n (sizes_of (T c.before.before).rules) n) (counted c.before.before) ∙ sym (length-book (T c.before.before)))
 
-returns-2 : tie.Need-returns-2
+returns-2 : tie.Need-returns-then-out-size
 returns-2 c =
-    let s = c.before in
-    let d = s.before.before in
-    sym (write-short (T d) (old d) (none d) (omega (arith, c.if2.true, size_is s)))
+    sym (write-short (T c.before.before.before) (old c.before.before.before) (none c.before.before.before) (omega (arith, c.if-out-size.true, size_is c.before)))
 
 -- there is room for the bodies
-enough : (c : tie.Else2)
-    → let d = c.before.before.before in
-    4 + 4 * d.count.result + length (bodies_bytes (T d).rules d.count.result) ≤ length (old d)
+enough : (c : tie.Else-out-size)
+    → 4 + 4 * c.count-n.result + length (bodies_bytes (T c.before.before.before).rules c.count-n.result) ≤ length (old c.before.before.before)
 enough c =
-    let d = c.before.before.before in
-    omega (arith, length-bodies d.count.result (T d).rules d.count.result, c.before.end_of_lem.ensures, c.if2.false)
+    omega (arith, length-bodies c.count-n.result (T c.before.before.before).rules c.count-n.result, c.end_of-size.ensures, c.if-out-size.false)
 
-put-4-requires : tie.Need-put-4-requires
+put-4-requires : tie.Need-put_4-requires
 put-4-requires c κs = omega (arith, enough c.before.before.before)
 
-write-contents-requires : tie.Need-write-contents-requires
+write-contents-requires : tie.Need-write_contents-requires
 write-contents-requires c κs =
-    let p = c.before.before.before.before in
-    let e = p.before.before.before.before in
-    (rules-ready e.before.before.before, search rules, omega (arith, enough e, p.put_4.auto.0))
+    (rules-ready c.before.before.before.before.before.before.before.before.before.before.before, search rules, omega (arith, enough c.before.before.before.before.before.before.before.before, c.put_4.new.out))
 
-write-bodies-requires : tie.Need-write-bodies-requires
+write-bodies-requires : tie.Need-write_bodies-requires
 write-bodies-requires c κs =
-    let w = c.before.before.before.before in
-    let p = w.before.before.before.before.before in
-    let e = p.before.before.before.before in
-    let d = e.before.before.before in
-    let n = d.count.result in (
-      rules-ready d,
+    let n = c.count-n.result in (
+      rules-ready c.before.before.before.before.before.before.before.before.before.before.before.before.before.before.before.before,
       search rules,
-      omega (arith, enough e, length-bodies n (T d).rules n, w.write-contents.auto.0, p.put_4.auto.0),
+      omega (arith, enough c.before.before.before.before.before.before.before.before.before.before.before.before.before, length-bodies n (T c.before.before.before.before.before.before.before.before.before.before.before.before.before.before.before.before).rules n, c.write_contents.new.out, c.put_4.new.out),
     )
 
-returns-3 : tie.Need-returns-3
+returns-3 : tie.Need-returns
 returns-3 c =
-    let b = c.before.before in
-    let w = b.before.before.before.before.before in
-    let p = w.before.before.before.before.before in
-    let s = p.before.before.before.before.before in
-    let d = s.before.before in
-    let t = T d in
-    let l = old d in
-    let room : length (book_of t) ≤ length l = omega (arith, p.before.before.before.before.if2.false, size_is s) in
-    let e = counted d in
+    let t = T c.before.before.before.before.before.before.before.before.before.before.before.before.before.before.before.before.before.before.before in
+    let l = old c.before.before.before.before.before.before.before.before.before.before.before.before.before.before.before.before.before.before.before in
+    let room : length (book_of t) ≤ length l = omega (arith, c.if-out-size.false, size_is c.before.before.before.before.before.before.before.before.before.before.before.before.before.before.before.before.before) in
+    let e = counted c.before.before.before.before.before.before.before.before.before.before.before.before.before.before.before.before.before.before.before in
     let whole = put-book t l room
-    (p.put_4.ensures ∙ ap (put l 0) (head-from (start d).args.table.now))
-    (w.write-contents.ensures ∙ ap (λ (n : ℕ). put p.put_4.new.0 4 (contents_bytes n t.rules n)) e)
-    (b.write-bodies.ensures
-    ∙ ap (λ (n : ℕ). put w.write-contents.new.0 (4 + 4 * n) (bodies_bytes t.rules n)) e) in
-    ap₂ (λ (n : ℕ) (x : List ℕ). (written 0 255 n, x)) (size_is s) whole ∙ sym (write_done t l (none d) room)
+    (c.put_4.ensures ∙ ap (put l 0) (head-from (start c.before.before.before.before.before.before.before.before.before.before.before.before.before.before.before.before.before.before.before).args.table.now))
+    (c.write_contents.ensures ∙ ap (λ (n : ℕ). put c.put_4.new.out 4 (contents_bytes n t.rules n)) e)
+    (c.write_bodies.ensures
+    ∙ ap (λ (n : ℕ). put c.write_contents.new.out (4 + 4 * n) (bodies_bytes t.rules n)) e) in
+    ap₂ (λ (n : ℕ) (x : List ℕ). (written 0 255 n, x)) (size_is c.before.before.before.before.before.before.before.before.before.before.before.before.before.before.before.before.before) whole ∙ sym (write_done t l (none c.before.before.before.before.before.before.before.before.before.before.before.before.before.before.before.before.before.before.before) room)
 
 pub write_spec : {M : Type 1} → statement M
 write_spec =

@@ -21,64 +21,58 @@ use Rattle.machine_step.proofs.TurnLaws.{few-at, sizes-at, woken-is, woken-by}
 use Rattle.machine.proofs.post.Statement.{statement}
 use Rattle.machine.proofs.post.Tie as tie
 
-returns : tie.Need-returns
+returns : tie.Need-returns-then-a-ne0
 unfolding post_of
 returns c =
-    let k = c.before.before.before in
-    let a = k.before.args in
+    let a = c.args in
     let t = table_from a.table.now in
     c.answer.ensures
-    ∙ checked_refused t k.check.result k.check.ensures c.before.if1.true
+    ∙ checked_refused t c.check-a.result c.check-a.ensures c.if-a-ne0.true
     (post_numbers t a.s a.cell a.value) a.s (stored_and_woken t a.s (set a.s.cells a.cell a.value))
 
 -- past the first test
-module _ (c : tie.Else1) where
+module _ (c : tie.Else-a-ne0) where
   abbrev image : List ℕ
-  image = c.before.before.before.args.table.now
+  image = c.args.table.now
 
   abbrev state : State
-  state = c.before.before.before.args.s
+  state = c.args.s
 
   abbrev cell : ℕ
-  cell = c.before.before.before.args.cell
+  cell = c.args.cell
 
   abbrev value : ℤ
-  value = c.before.before.before.args.value
+  value = c.args.value
 
   sound-here : Sound (table_from image)
-  sound-here = checked-sound (table_from image) c.before.before.check.result c.before.before.check.ensures c.if1.false
+  sound-here = checked-sound (table_from image) c.check-a.result c.check-a.ensures c.if-a-ne0.false
 
-post-number-requires : tie.Need-post-number-requires
+post-number-requires : tie.Need-post_number-number-requires
 post-number-requires c κs =
-    let d = c.before.before.before in
-    sizes-at (image d) (search rules) (sound-here d)
+    sizes-at (image c.before.before.before) (search rules) (sound-here c.before.before.before)
 
 -- the posting's own number
-own : (c : tie.After-post-number) → let d = c.before.before.before.before in
-    c.post-number.result ≡ first_of 0 (post_numbers (table_from (image d)) (state d) (cell d) (value d))
+own : (c : tie.After-post_number-number) → c.post_number-number.result ≡ first_of 0 (post_numbers (table_from (image c.before.before.before.before)) (state c.before.before.before.before) (cell c.before.before.before.before) (value c.before.before.before.before))
 own c =
-    let d = c.before.before.before.before in
-    c.post-number.ensures
-    ∙ ap (λ (v : ℤ). first_of 0 (post_numbers (table_from (image d)) (state d) (cell d) v)) (to_z-of_z d.before.before.before.ranges.value)
+    c.post_number-number.ensures
+    ∙ ap (λ (v : ℤ). first_of 0 (post_numbers (table_from (image c.before.before.before.before)) (state c.before.before.before.before) (cell c.before.before.before.before) v)) (to_z-of_z c.ranges.value)
 
-returns-2 : tie.Need-returns-2
+returns-2 : tie.Need-returns-then-number-ne0
 unfolding post_of
 returns-2 c =
-    let p = c.before.before in
-    let d = p.before.before.before.before in
-    let t = table_from (image d) in
-    c.answer2.ensures
-    ∙ ap (λ (x : ℕ). moved x 255 (state d)) (own p)
-    ∙ sym (answered-own t (post_numbers t (state d) (cell d) (value d)) (state d)
-    (stored_and_woken t (state d) (set (state d).cells (cell d) (value d))) (sound-here d) (λ z. c.before.if2.true (own p ∙ z)))
+    let t = table_from (image c.before.before.before.before.before.before) in
+    c.answer-then-number-ne0.ensures
+    ∙ ap (λ (x : ℕ). moved x 255 (state c.before.before.before.before.before.before)) (own c.before.before)
+    ∙ sym (answered-own t (post_numbers t (state c.before.before.before.before.before.before) (cell c.before.before.before.before.before.before) (value c.before.before.before.before.before.before)) (state c.before.before.before.before.before.before)
+    (stored_and_woken t (state c.before.before.before.before.before.before) (set (state c.before.before.before.before.before.before).cells (cell c.before.before.before.before.before.before) (value c.before.before.before.before.before.before))) (sound-here c.before.before.before.before.before.before) (λ z. c.if-number-ne0.true (own c.before.before ∙ z)))
 
 -- past the second
-module _ (c : tie.Else2) where
-  abbrev early : tie.Else1
+module _ (c : tie.Else-number-ne0) where
+  abbrev early : tie.Else-a-ne0
   early = c.before.before.before.before.before
 
   zero : first_of 0 (post_numbers (table_from (image early)) (state early) (cell early) (value early)) ≡ 0
-  zero = sym (own c.before) ∙ c.if2.false
+  zero = sym (own c.before) ∙ c.if-number-ne0.false
 
   long-cells : length (state early).cells ≡ 32
   long-cells = search rules
@@ -90,38 +84,34 @@ module _ (c : tie.Else2) where
     (posting (table_from (image early)) (state early) (cell early) (value early) zero).below,
   )
 
-watches-requires : tie.Need-watches-requires
+watches-requires : tie.Need-watches-row-requires
 watches-requires c κs =
-    let d = early c.before.before.before in
+    let d = early c.before.before.before.before in
     let long : length (image d) ≡ 9092 = search rules in
     (long, c.count.ensures.0, rw c.count.ensures.0 (few-at (image d) (sound-here d)))
 
-put-requires : tie.Need-put-requires
-put-requires c κs = cell_below c.before.before.before.before.before
+put-requires : tie.Need-put-changed-requires
+put-requires c κs = cell_below c.before.before.before.before.before.before
 
-returns-3 : tie.Need-returns-3
+returns-3 : tie.Need-returns
 unfolding post_of
 returns-3 c =
-    let w = c.before.before in
-    let p = w.before.before in
-    let v = p.before.before in
-    let e = v.before.before.before.before in
-    let d = early e in
+    let d = early c.before.before.before.before.before.before.before.before.before.before.before in
     let t = table_from (image d) in
     let after = set (state d).cells (cell d) (value d) in
-    c.answer3.ensures
+    c.answer-2.ensures
     ∙ ap (moved 0 255)
-    (c.before.joined.ensures
-    ∙ woken-is v.watches.result (state d) p.put.new.0 p.put.result w.woken.result
-    (put_one (state d).cells p.put.new.0 (cell d) _ p.put.result (long-cells e) (omega arith) p.put.ensures)
-    w.woken.ensures
-    ∙ ap₂ (λ (row : List ℕ) (x : List ℤ). stored_and_woken_by row (state d) x) v.watches.ensures
-    (p.put.ensures.cells ∙ ap (set (state d).cells (cell d)) (to_z-of_z d.before.before.before.fits.value))
+    (c.joined-posted.ensures
+    ∙ woken-is c.watches-row.result (state d) c.put-changed.new.cells c.put-changed.result c.woken.result
+    (put_one (state d).cells c.put-changed.new.cells (cell d) _ c.put-changed.result (long-cells c.before.before.before.before.before.before.before.before.before.before.before) (omega arith) c.put-changed.ensures)
+    c.woken.ensures
+    ∙ ap₂ (λ (row : List ℕ) (x : List ℤ). stored_and_woken_by row (state d) x) c.watches-row.ensures
+    (c.put-changed.ensures.cells ∙ ap (set (state d).cells (cell d)) (to_z-of_z d.ranges.value))
     ∙ woken-by t (parts t (sound-here d)).sizes.rules (state d) after)
-    ∙ sym (answered-is t (post_numbers t (state d) (cell d) (value d)) (state d) (stored_and_woken t (state d) after) (sound-here d) (zero e))
+    ∙ sym (answered-is t (post_numbers t (state d) (cell d) (value d)) (state d) (stored_and_woken t (state d) after) (sound-here d) (zero c.before.before.before.before.before.before.before.before.before.before.before))
 
-pub post-spec : {M : Type 1} → statement M
-post-spec =
+pub post_spec : {M : Type 1} → statement M
+post_spec =
     tie.close
     (tie.spec
     (λ c κs. search rules)

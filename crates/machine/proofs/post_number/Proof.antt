@@ -30,41 +30,39 @@ unfolding table_from
 cells s = refl
 
 -- the test of 11 is the table's
-fit : (c : tie.After-state-bad) → let b = c.before.before.before.before in c.state-bad.result ≡ state_bad (table b) (state b)
-fit c = let b = c.before.before.before.before in c.state-bad.ensures ∙ bad-by b.args.table.now (state b)
+fit : (c : tie.After-state_bad) → c.state_bad.result ≡ state_bad (table c.before.before.before.before) (state c.before.before.before.before)
+fit c = c.state_bad.ensures ∙ bad-by c.args.table.now (state c.before.before.before.before)
 
-returns : tie.Need-returns
+returns : tie.Need-returns-then-state_bad
 unfolding post_numbers
-returns c = rw (sym (fit c.before) ∙ c.if1.true)
+returns c = rw (sym (fit c.before) ∙ c.if-state_bad.true)
 
 -- past the first test the second decides
-module _ (c : tie.After-out-of-range) where
-  abbrev first : tie.Else1
+module _ (c : tie.After-out_of_range) where
+  abbrev first : tie.Else-state_bad
   first = c.before.before.before
 
   abbrev start : tie.Start
   start = first.before.before.before.before.before
 
-  own : (leb c.before.count.result start.args.cell || c.out_of_range.result)
+  own : (leb c.count.result start.args.cell || c.out_of_range.result)
       ≡ (leb (table start).k start.args.cell || out_of_range start.args.value)
   own =
-      ap₂ (λ (k : ℕ) (b : Bool). leb k start.args.cell || b) (c.before.count.ensures.0 ∙ cells start.args.table.now)
-      (c.out_of_range.ensures ∙ ap out_of_range (to_z-of_z start.fits.value))
+      ap₂ (λ (k : ℕ) (b : Bool). leb k start.args.cell || b) (c.count.ensures.0 ∙ cells start.args.table.now)
+      (c.out_of_range.ensures ∙ ap out_of_range (to_z-of_z start.ranges.value))
 
-returns-2 : tie.Need-returns-2
+returns-2 : tie.Need-returns-then-count-cell
 unfolding post_numbers
 returns-2 c =
-    let o = c.before in
-    rw (sym (fit (first o).before) ∙ (first o).if1.false, sym (own o) ∙ c.if2.true)
+    rw (sym (fit (first c.before).before) ∙ (first c.before).if-state_bad.false, sym (own c.before) ∙ c.if-count-cell.true)
 
-returns-3 : tie.Need-returns-3
+returns-3 : tie.Need-returns
 unfolding post_numbers
 returns-3 c =
-    let o = c.before in
-    rw (sym (fit (first o).before) ∙ (first o).if1.false, sym (own o) ∙ c.if2.false)
+    rw (sym (fit (first c.before).before) ∙ (first c.before).if-state_bad.false, sym (own c.before) ∙ c.if-count-cell.false)
 
-pub post-number-spec : {M : Type 1} → statement M
-post-number-spec =
+pub post_number_spec : {M : Type 1} → statement M
+post_number_spec =
     tie.close
     (tie.spec
     (λ c. search rules)

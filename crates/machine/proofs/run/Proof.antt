@@ -15,80 +15,73 @@ use Rattle.machine_step.proofs.TurnLaws.{bad-by, few-at}
 use Rattle.machine.proofs.run.Statement.{statement}
 use Rattle.machine.proofs.run.Tie as tie
 
-returns : tie.Need-returns
+returns : tie.Need-returns-then-a-ne0
 returns c =
-    let k = c.before.before in
-    let a = k.before.args in
-    run-table (table_from a.table.now) a.s a.budget k.check.result k.check.ensures c.if1.true
+    let a = c.args in
+    run-table (table_from a.table.now) a.s a.budget c.check-a.result c.check-a.ensures c.if-a-ne0.true
 
 -- past the first test
-module _ (c : tie.Else1) where
+module _ (c : tie.Else-a-ne0) where
   abbrev image : List ℕ
-  image = c.before.before.before.args.table.now
+  image = c.args.table.now
 
   abbrev state : State
-  state = c.before.before.before.args.s
+  state = c.args.s
 
   sound-here : Sound (table_from image)
-  sound-here = checked-sound (table_from image) c.before.before.check.result c.before.before.check.ensures c.if1.false
+  sound-here = checked-sound (table_from image) c.check-a.result c.check-a.ensures c.if-a-ne0.false
 
-state-bad-requires : tie.Need-state-bad-requires
-state-bad-requires c κs = let d = c.before.before.before.before in few-at (image d) (sound-here d)
+state-bad-requires : tie.Need-state_bad-requires
+state-bad-requires c κs = few-at (image c.before.before.before.before.before) (sound-here c.before.before.before.before.before)
 
 -- the test of 11 is the table's
-fit : (c : tie.After-state-bad) → let d = c.before.before.before.before.before in
-    c.state-bad.result ≡ state_bad (table_from (image d)) (state d)
-fit c = let d = c.before.before.before.before.before in c.state-bad.ensures ∙ bad-by (image d) (state d)
+fit : (c : tie.After-state_bad) → c.state_bad.result ≡ state_bad (table_from (image c.before.before.before.before.before.before)) (state c.before.before.before.before.before.before)
+fit c = c.state_bad.ensures ∙ bad-by (image c.before.before.before.before.before.before) (state c.before.before.before.before.before.before)
 
-returns-2 : tie.Need-returns-2
+returns-2 : tie.Need-returns-then-state_bad
 returns-2 c =
-    let b = c.before.before in
-    let d = b.before.before.before.before.before in
-    let a = d.before.before.before.args in
+    let a = c.args in
     c.ran.ensures
-    ∙ sym (run_11 (table_from (image d)) (state d) a.budget (sound-here d) (sym (fit b) ∙ c.before.if2.true))
+    ∙ sym (run_11 (table_from (image c.before.before.before.before.before.before.before.before)) (state c.before.before.before.before.before.before.before.before) a.budget (sound-here c.before.before.before.before.before.before.before.before) (sym (fit c.before.before) ∙ c.if-state_bad.true))
 
 -- past the second
-module _ (c : tie.Else2) where
-  abbrev early : tie.Else1
-  early = c.before.before.before.before.before.before
+module _ (c : tie.Else-state_bad) where
+  abbrev early : tie.Else-a-ne0
+  early = c.before.before.before.before.before.before.before
 
   fits : Fits (table_from (image early)) (state early)
   fits =
       let l : length (state early).cells ≡ 32 = search rules in
-      record { long = l; waiting = search rules; faults = search rules; good = sym (fit c.before) ∙ c.if2.false }
+      record { long = l; waiting = search rules; faults = search rules; good = sym (fit c.before) ∙ c.if-state_bad.false }
 
-module _ (c : tie.After-count) where
-  few : c.count.result ≤ 32
-  few = let d = early c.before.before in rw c.count.ensures.0 (few-at (image d) (sound-here d))
+module _ (c : tie.After-count-n) where
+  few : c.count-n.result ≤ 32
+  few = let d = early c.before.before in rw c.count-n.ensures.0 (few-at (image d) (sound-here d))
 
-watches-requires : tie.Need-watches-requires
-watches-requires c κs = (search rules, c.before.count.ensures.0, few c.before)
+watches-requires : tie.Need-watches-row-requires
+watches-requires c κs = (search rules, c.count-n.ensures.0, few c.before)
 
-goes-before-requires : tie.Need-goes-before-requires
+goes-before-requires : tie.Need-goes_before-rows-requires
 goes-before-requires c κs =
-    let k = c.before.before.before in (search rules, k.count.ensures.0, few k)
+    (search rules, c.count-n.ensures.0, few c.before.before.before)
 
 runs-requires : tie.Need-runs-requires
 runs-requires c κs =
-    let g = c.before.before.before in
-    let w = g.before.before in
-    let e = w.before.before.before.before in (
+    (
       record {
         long = search rules;
-        sound = sound-here (early e);
-        watches = w.watches.ensures;
-        before = g.goes_before.ensures;
+        sound = sound-here (early c.before.before.before.before.before.before.before.before.before);
+        watches = c.watches-row.ensures;
+        before = c.goes_before-rows.ensures;
       },
-      fits e,
+      fits c.before.before.before.before.before.before.before.before.before,
     )
 
-returns-3 : tie.Need-returns-3
+returns-3 : tie.Need-returns
 returns-3 c =
-    let e = c.before.before.before.before.before.before.before.before.before.before in
-    let d = early e in
+    let d = early c.before.before.before.before.before.before.before.before.before.before in
     c.runs.ensures
-    ∙ sym (run_is (table_from (image d)) (state d) d.before.before.before.args.budget (sound-here d) (fits e))
+    ∙ sym (run_is (table_from (image d)) (state d) d.args.budget (sound-here d) (fits c.before.before.before.before.before.before.before.before.before.before))
 
 pub run_spec : {M : Type 1} → statement M
 run_spec =

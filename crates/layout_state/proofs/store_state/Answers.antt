@@ -8,15 +8,12 @@ use Rattle.little.proofs.PutLaws.{put_next, put_whole}
 use Rattle.little.specs.Bytes.{u32_bytes}
 use Rattle.layout_state.specs.States.{cells_bytes, state_bytes}
 use Rattle.layout_state.proofs.StatesLaws.{length-cells, length_front, length-state}
-use Rattle.layout_state.proofs.store_state.Statement.{statement}
-use Rattle.layout_state.proofs.store_state.Tie as tie
+use Rattle.layout_state.proofs.store_state.Goals as goal
 
-returns : tie.Need-returns
+pub returns : goal.returns
 unfolding state_bytes
 returns c =
-    let w = c.before.before in
-    let p = w.before.before in
-    let a = p.before.before.before.args in
+    let a = c.args in
     let s = a.s in
     let old = a.out.now in
     let size : length old ≡ 264 = search rules in
@@ -24,11 +21,7 @@ returns c =
     let b2 = b1 ++ u32_bytes s.waiting in
     let n1 : length b1 ≡ 256 = length-cells s.cells 32 in
     let n2 : length b2 ≡ 260 = length_front s.cells s.waiting in
-    let w2 = put_next old 0 b1 p.put-cells.ensures (omega arith) 256 (omega arith) (u32_bytes s.waiting)
-    w.put-u32.ensures in
-    put_next old 0 b2 w2 (omega arith) 260 (omega arith) (u32_bytes s.faults) c.put-u322.ensures
+    let w2 = put_next old 0 b1 c.put_cells.ensures (omega arith) 256 (omega arith) (u32_bytes s.waiting)
+    c.put_u32.ensures in
+    put_next old 0 b2 w2 (omega arith) 260 (omega arith) (u32_bytes s.faults) c.put_u32-2.ensures
     ∙ put_whole old (state_bytes s) (length-state s ∙ sym size)
-
-pub store-state-spec : {M : Type 1} → statement M
-store-state-spec =
-    tie.close (tie.spec (λ c κs. search rules) (λ c κs. search rules) (λ c κs. search rules) returns)

@@ -1,0 +1,47 @@
+use mathlib.Core.Path.{◌≡◌, refl, sym, ap, ◌∙◌}
+use mathlib.Core.Bool.{Bool, true, false, cond}
+use mathlib.Core.List.{List, [], ◌∷◌, ◌++◌}
+use mathlib.Core.Logic.{⊎_elim}
+use Prim.Native.Nat.{ℕ, ◌+◌, ◌-◌, ◌*◌, ◌≤◌}
+use native.Mathlib.Omega.{arith}
+use Rattle.mask.specs.Mask.{has}
+use Rattle.little.specs.Joined.{joined}
+use Rattle.little.proofs.JoinedLaws.{joined-more}
+use Rattle.report_text.specs.Text.{spaced, members}
+use Rattle.report_text.specs.ReportTextInner.{Added}
+use Rattle.report_text.proofs.AddedLaws.{added_none, added_as, added_numbers}
+use borrow.Author.Rules.{rules}
+use Rattle.report_text.proofs.members.Goals as goal
+use Rattle.report_text.proofs.members.Goals.{else-has, then-has}
+use Rattle.report_text.proofs.members.Invariants.{below}
+
+next : (m i : ℕ) {d : List ℕ} {at : ℕ} {e : List ℕ} {p : ℕ} → Added d at (spaced (below m i)) (11 * i) e p → (b : Bool) → has m i ≡ b
+    → {f : List ℕ} {q : ℕ} → Added e p (spaced (cond b (i ∷ []) [])) 11 f q → Added d at (spaced (below m (i + 1))) (11 * (i + 1)) f q
+next m i h b e g =
+    let more = ap (λ (x : Bool). below m i ++ cond x (i ∷ []) []) (sym e) in
+    added_as (added_numbers (below m i) (cond b (i ∷ []) []) h g)
+    (ap spaced (more ∙ sym (joined-more i (λ x. cond (has m x) (x ∷ []) []))))
+    (omega arith)
+
+pub loop-i-init : goal.loop-i-init
+unfolding joined spaced
+loop-i-init c = (omega arith, c.requires, added_none c.args.out.now c.args.at)
+
+pub loop-i-preserved : goal.loop-i-preserved
+unfolding spaced
+loop-i-preserved c =
+    let m = c.args.m in
+    let at = c.loop-i in
+    let told = c.has.ensures in (
+      omega arith,
+      at.invariant.1,
+      elim c.if-has.branch [ then-has w ↦ rw (w.out-is, w.end-is) (next m at.i at.invariant.2 true (sym told ∙ w.if-has.true) w.number-end.ensures) | else-has w ↦ rw (w.out-is, w.end-is)
+          (next m at.i at.invariant.2 false (sym told ∙ w.if-has.false) (added_as (added_none at.out at.end) refl (omega arith))) ],
+    )
+
+pub returns : goal.returns
+unfolding members
+returns c =
+    let at = c.loop-i in
+    let e : at.i ≡ 32 = omega arith in
+    added_as at.invariant.2 (ap (λ (i : ℕ). spaced (below c.args.m i)) e) (omega arith)
