@@ -25,9 +25,9 @@ unfolding cells_bytes
 loop-i-preserved c =
     let a = c.args in
     let i = c.loop-i.i in
-    let n = length-cells a.t2 i in (
+    let n = length-cells a.cells i in (
       search rules,
-      put-joined a.out.now 0 (λ j. i64_bytes (at a.t2 j)) i c.loop-i.invariant.1 (omega arith) (8 * i) (omega arith)
+      put-joined a.out.now 0 (λ j. i64_bytes (at a.cells j)) i c.loop-i.invariant.1 (omega arith) (8 * i) (omega arith)
           (c.put_i64.ensures
           ∙ ap (λ (z : ℤ). put c.loop-i.out (8 * i) (i64_bytes z)) (to_z-of_z {w = w64} (sfits_of c.put_i64-arg-in-loop-i-1.given))),
       search rules,
@@ -37,4 +37,4 @@ pub returns : goal.returns
 returns c =
     let a = c.args in
     let e : c.loop-i.i ≡ 32 = omega arith in
-    c.loop-i.invariant.1 ∙ ap (λ (i : ℕ). put a.out.now 0 (cells_bytes a.t2 i)) e
+    c.loop-i.invariant.1 ∙ ap (λ (i : ℕ). put a.out.now 0 (cells_bytes a.cells i)) e

@@ -35,7 +35,7 @@ abbrev decreases-loop-i : tie.decreases-loop-i
 decreases-loop-i s n watch₀ reads₀ writes₀ precedes₀ i₀ ws rs us ps i = n - i
 
 -- the book, which has room for its contents
-module _ (c : tie.start-at invariant-loop-i decreases-loop-i) where
+module _ (c : tie.Start invariant-loop-i decreases-loop-i) where
   abbrev book : List ℕ
   book = c.args.book.now
 
@@ -55,7 +55,7 @@ loop-holds c =
 
 -- in a turn, body i is one of the book's
 module _ (c : tie.In-loop-i invariant-loop-i decreases-loop-i) where
-  abbrev start : tie.start-at invariant-loop-i decreases-loop-i
+  abbrev start : tie.Start invariant-loop-i decreases-loop-i
   start = c.before.before.before.before.before
 
   low : c.loop-i.i < n_of (book start)

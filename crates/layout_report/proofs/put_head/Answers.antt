@@ -10,18 +10,12 @@ use Rattle.little.proofs.PutLaws.{put_next}
 use Rattle.little.specs.Bytes.{u16_bytes, u32_bytes}
 use Rattle.little.proofs.BytesLaws.{length_u16, length_u32}
 use Rattle.layout_report.specs.Layout.{summary_bytes}
-use Rattle.layout_report.proofs.put_head.Statement.{statement}
-use Rattle.layout_report.proofs.put_head.Tie as tie
+use Rattle.layout_report.proofs.put_head.Goals as goal
 
-returns : tie.Need-returns
+pub returns : goal.returns
 unfolding summary_bytes
 returns c =
-    let z = c.before.before in
-    let p = z.before.before.before.before in
-    let f = p.before.before.before.before in
-    let m = f.before.before.before.before in
-    let h = m.before.before.before.before in
-    let a = h.before.before.before.before.args in
+    let a = c.args in
     let r = a.r in
     let l = a.out.now in
     let b1 = r.number ∷ r.place ∷ cond r.cleared 1 0 ∷ 0 ∷ [] in
@@ -31,22 +25,9 @@ returns c =
     let n2 : length b2 ≡ 8 = simp length_u32 in
     let n3 : length b3 ≡ 10 = simp (length-append, length_u32, length_u16) in
     let n4 : length b4 ≡ 14 = simp (length-append, length_u32, length_u16) in
-    let w1 : h.put_4.new.0 ≡ put l 0 b1 = rw (← h.before.flag.ensures) h.put_4.ensures in
-    let w2 = put_next l 0 b1 w1 (omega arith) 4 (omega arith) (u32_bytes r.faulty) m.put-u32.ensures in
-    let w3 = put_next l 0 b2 w2 (omega arith) 8 (omega arith) (u16_bytes r.failing) f.put-u16.ensures in
+    let w1 : c.put_4.new.out ≡ put l 0 b1 = rw (← c.flag.ensures) c.put_4.ensures in
+    let w2 = put_next l 0 b1 w1 (omega arith) 4 (omega arith) (u32_bytes r.faulty) c.put_u32.ensures in
+    let w3 = put_next l 0 b2 w2 (omega arith) 8 (omega arith) (u16_bytes r.failing) c.put_u16.ensures in
     let w4 = put_next l 0 b3 w3 (omega arith) 10 (omega arith) (r.first ∷ r.second ∷ r.culprit ∷ r.other ∷ [])
-    p.put-42.ensures in
-    put_next l 0 b4 w4 (omega arith) 14 (omega arith) (u16_bytes 0) z.put-u162.ensures
-
-pub put-head-spec : {M : Type 1} → statement M
-put-head-spec =
-    tie.close
-    (tie.spec
-    (λ c κs. search rules)
-    (λ c κs. search rules)
-    (λ c κs. search rules)
-    (λ c κs. search rules)
-    (λ c κs. search rules)
-    (λ c κs. search rules)
-    (λ c. search rules)
-    returns)
+    c.put_4-2.ensures in
+    put_next l 0 b4 w4 (omega arith) 14 (omega arith) (u16_bytes 0) c.put_u16-2.ensures
