@@ -10,14 +10,14 @@ ghost use Rattle.analysis_marks.specs.Marks.{fails_at, FirstOf};
 ghost use Rattle.analysis_marks.specs.AnalysisMarksInner.{WhetherUnordered, Judges, graphs_in, no_marks, Filling, Filled, Marks, Twos};
 
 // Two rules, the lower first.
-#[derive(Drop)]
+#[derive(Clone, Copy)]
 struct Pair {
     first: usize,
     second: usize,
 }
 
 // The first failing pair and its culprits, or noMarks.
-#[derive(Drop)]
+#[derive(Clone, Copy)]
 pub struct First {
     pub first: u8,
     pub second: u8,

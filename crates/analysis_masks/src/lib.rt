@@ -8,7 +8,7 @@ pub mod rows;
 
 // Number 0 and place 255 say that it is done. A mark is 0 for a pair that is ordered or absent, 1 for one that passes,
 // 2 for one that fails.
-#[derive(Drop)]
+#[derive(Clone, Copy)]
 pub struct Report {
     pub number: u8,
     pub place: u8,
@@ -23,7 +23,7 @@ pub struct Report {
 }
 
 // What a report has beside its number, its place and its marks.
-#[derive(Drop)]
+#[derive(Clone, Copy)]
 pub struct Summary {
     pub cleared: bool,
     pub faulty: u32,
@@ -35,7 +35,7 @@ pub struct Summary {
 }
 
 // Number and place as in a report; a refused step bound is 0.
-#[derive(Drop)]
+#[derive(Clone, Copy)]
 pub struct Bound {
     pub number: u8,
     pub place: u8,

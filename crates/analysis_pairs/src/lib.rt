@@ -8,7 +8,7 @@ ghost use Rattle.analysis_pairs.specs.AnalysisPairsInner.{edge, masks_in, trigge
 ghost use Rattle.analysis_pairs.specs.AnalysisPairsInner.{turned_of, rules_in, Mutual, Touches, clashing, grows, Grew, Judged};
 
 // Four masks a rule, of at most 32 rules: the cells that it watches, reads and writes, and the rules that it precedes.
-#[derive(Drop)]
+#[derive(Clone, Copy)]
 pub struct Masks {
     pub n: usize,
     pub watch: [u32; 32],
@@ -18,14 +18,14 @@ pub struct Masks {
 }
 
 // R1 and R2.
-#[derive(Drop)]
+#[derive(Clone, Copy)]
 pub struct Sets {
     pub first: u32,
     pub second: u32,
 }
 
 // Whether a pair fails, and then the two culprits; 0 where it passes.
-#[derive(Drop)]
+#[derive(Clone, Copy)]
 pub struct Judgement {
     pub fails: bool,
     pub first: u8,

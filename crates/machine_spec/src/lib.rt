@@ -1,7 +1,7 @@
 // A state by value, and what comes back from a call on one. What a step, a posting and a run do is said in specs/.
 #![tactic(auto)]
 
-#[derive(Drop)]
+#[derive(Clone, Copy)]
 pub struct State {
     pub cells: [i64; 32],
     pub waiting: u32,
@@ -9,7 +9,7 @@ pub struct State {
 }
 
 // A number with its place, and the state that comes back.
-#[derive(Drop)]
+#[derive(Clone, Copy)]
 pub struct Moved {
     pub number: u8,
     pub place: u8,
@@ -17,7 +17,7 @@ pub struct Moved {
 }
 
 // The same of a run, with the steps taken.
-#[derive(Drop)]
+#[derive(Clone, Copy)]
 pub struct Ran {
     pub number: u8,
     pub place: u8,

@@ -13,7 +13,7 @@ ghost use Rattle.report_lines.specs.Lines.{laid, FourLines, TextOf, LinesSay};
 use analysis_masks::Summary;
 use table::Answer;
 
-#[derive(Drop)]
+#[derive(Clone, Copy)]
 pub struct Printed {
     pub number: u8,
     pub place: u8,
@@ -21,7 +21,7 @@ pub struct Printed {
 }
 
 // A report but for its marks, and the step bound of all rules.
-#[derive(Drop)]
+#[derive(Clone, Copy)]
 struct Found {
     summary: Summary,
     bound: u32,

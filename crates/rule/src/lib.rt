@@ -24,7 +24,7 @@ pub struct Assign {
 }
 
 // The four count bytes are t, a, m and zero.
-#[derive(Drop)]
+#[derive(Clone, Copy)]
 pub struct Rule {
     pub watch: u32,
     pub precedes: u32,

@@ -9,7 +9,7 @@ ghost use Rattle.rule_read.specs.Parts.{test_in, assign_in, name_in};
 use rule::{Assign, Test};
 
 // How many tests, assignments and letters a rule has.
-#[derive(Drop)]
+#[derive(Clone, Copy)]
 pub struct Counts {
     pub tests: usize,
     pub assigns: usize,

@@ -10,7 +10,7 @@ ghost use Rattle.table.specs.Memory.{table_from};
 ghost use Rattle.table.specs.TableInner.{Sizes, judged, any_set};
 
 // A number of the paper with its place.
-#[derive(Drop)]
+#[derive(Clone, Copy)]
 pub struct Answer {
     pub number: u8,
     pub place: u8,
