@@ -16,7 +16,7 @@ module _ (𝓡 : Runner) where
   runs_append [] v S h k = k
   runs_append (r ∷ u) v S h k = (h.0, runs_append u v (step r S) h.1 k)
 
-  pub exec-append : (u v : List ℕ) (S : State) → exec 𝓡 (u ++ v) S ≡ (exec 𝓡) v (exec 𝓡 u S)
+  pub exec-append : (u v : List ℕ) (S : State) → exec 𝓡 (u ++ v) S ≡ exec 𝓡 v (exec 𝓡 u S)
   exec-append [] v S = refl
   exec-append (r ∷ u) v S = exec-append u v (step r S)
 
