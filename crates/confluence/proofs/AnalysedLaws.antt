@@ -32,7 +32,7 @@ use Rattle.orders.specs.System.{Weighs}
 use Rattle.orders.specs.Bodies.{Analysis}
 use Rattle.orders.specs.Actions.{action_bodies}
 use Rattle.orders.specs.Confluence.{PairsPass}
-use Rattle.orders.specs.Concrete.{machine}
+use Rattle.orders.proofs.ConcreteLaws.{machine}
 use Rattle.confluence.specs.Demand.{Precedes32}
 use Rattle.confluence.proofs.MachineLaws.{runner, actions, concrete}
 

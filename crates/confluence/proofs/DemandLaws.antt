@@ -38,11 +38,12 @@ use Rattle.machine_spec.proofs.StateLaws.{fits-waiting, fits-faults, fits-rest}
 use Rattle.machine_spec.proofs.StepLaws.{Stepping, step-done, step_fits}
 use Rattle.orders.specs.Finite.{sum}
 use Rattle.orders.specs.Runner.{Eligible, exec, Runs, Ended}
-use Rattle.orders.specs.Runner as orders
+use Rattle.orders.proofs.RunnerLaws as orders
 use Rattle.orders.specs.System.{step_bound}
-use Rattle.orders.specs.View.{viewed-short}
-use Rattle.orders.specs.Kept.{waiting_bit}
-use Rattle.orders.specs.Concrete.{machine, view, viewed, Promised, cleared⇒promised}
+use Rattle.orders.proofs.ViewLaws.{viewed-short}
+use Rattle.orders.proofs.WaitingBitLaws.{waiting_bit}
+use Rattle.orders.proofs.ConcreteLaws.{machine, view, viewed, cleared⇒promised}
+use Rattle.orders.specs.Concrete.{Promised}
 use Rattle.confluence.specs.Demand.{after, Permitted, Still, Precedes32, bound_of, EveryOrder, OneEnd}
 use Rattle.confluence.proofs.MachineLaws.{runner, actions, concrete, steps-done}
 use Rattle.confluence.proofs.AnalysedLaws.{weight, analysed, pairs_pass, total-sum, sum_past}

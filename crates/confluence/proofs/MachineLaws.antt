@@ -36,7 +36,8 @@ use Rattle.machine_spec.proofs.StepLaws.{step_is, step_fits}
 use Rattle.machine_spec.proofs.StateLaws.{fits-waiting}
 use Rattle.machine_spec.proofs.EffectLaws.{cells-after, waits-after, faults-after, wakes-below}
 use Rattle.orders.specs.Runner.{Runner, Eligible}
-use Rattle.orders.specs.Cells.{Cells, EqualOn, changed, changed_intro, changed-elim}
+use Rattle.orders.specs.Cells.{Cells, EqualOn, changed}
+use Rattle.orders.proofs.CellsLaws.{changed_intro, changed-elim}
 use Rattle.orders.specs.Actions.{Actions, stored}
 use Rattle.orders.specs.Concrete.{Concrete}
 

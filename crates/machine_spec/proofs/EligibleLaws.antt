@@ -15,7 +15,8 @@ use Rattle.machine_spec.specs.declared.State.{State}
 use Rattle.machine_spec.specs.State.{Fits, waits, held_back, eligible, lowest_of}
 use Rattle.machine_spec.proofs.StateLaws.{fits-waiting}
 use Rattle.machine_spec.proofs.HeldBackLaws.{eligible-by}
-use Rattle.orders.specs.Runner.{Runner, eligible-at-or-before}
+use Rattle.orders.specs.Runner.{Runner}
+use Rattle.orders.proofs.RunnerLaws.{eligible-at-or-before}
 
 module _ (t : Table) (s : State) (sd : Sound t) (h : Fits t s) where
   below : (r : ℕ) → waits s r ≡ true → r < t.n

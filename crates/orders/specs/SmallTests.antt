@@ -1,19 +1,11 @@
--- Tests that compute, for small instances: the order is strict, weights are heavy enough, a set is closed, two sets commute. Each has the
--- law that what passes holds.
-use Rattle.std.specs.Prelude.{Bool, true, false, ◌||◌, cond, ℕ, ◌+◌, ◌<◌, leb}
-use Rattle.std.proofs.Math.Bool.{So, not}
-use Rattle.std.proofs.lemmas.Bool.{false≢true}
-use Rattle.std.proofs.Common.{leb-true}
-use Rattle.orders.specs.Finite.{sum, all, all-elim, not-elim}
-use Rattle.orders.specs.System.{System, Weighs}
-use Rattle.orders.specs.Pairs.{Closed}
+-- Tests that compute, for small instances: the order is strict, weights are heavy enough, a set is closed, two sets commute.
+use Rattle.std.specs.Prelude.{Bool, ◌||◌, cond, ℕ, ◌+◌, leb}
+use Rattle.std.proofs.Math.Bool.{not}
+use Rattle.orders.specs.Finite.{sum, all}
+use Rattle.orders.specs.System.{System}
 
 abbrev pub implies : Bool → Bool → Bool
 implies a b = not a || b
-
-pub implies-elim : (a b : Bool) → So (implies a b) → So a → So b
-implies-elim true b h i = h
-implies-elim false b h i = absurd (false≢true i)
 
 -- ── priorities and weights ──
 unfoldable pub irreflexive? : ℕ → (ℕ → ℕ → Bool) → Bool
@@ -26,23 +18,6 @@ transitive? n before =
 unfoldable pub weighs? : ℕ → (ℕ → ℕ → Bool) → (ℕ → ℕ) → Bool
 weighs? n may_trigger weight =
     all (λ r. leb (1 + sum (λ s. cond (may_trigger r s) (weight s) 0) n) (weight r)) n
-
-module _ (n : ℕ) (before : ℕ → ℕ → Bool) where
-  pub irreflexive-elim : So (irreflexive? n before) → (r : ℕ) → r < n → So (before r r) → ⊥
-  unfolding irreflexive?
-  irreflexive-elim h r l = not-elim (before r r) (all-elim (λ r. not (before r r)) n h r l)
-
-  pub transitive-elim : So (transitive? n before) → (r s t : ℕ) → r < n → s < n → t < n
-      → So (before r s) → So (before s t) → So (before r t)
-  unfolding transitive?
-  transitive-elim h r s t lr ls lt x y =
-      implies-elim (before s t) (before r t)
-      (implies-elim (before r s) _ (all-elim _ n (all-elim _ n (all-elim _ n h r lr) s ls) t lt) x) y
-
-pub weighs-elim : (n : ℕ) (may_trigger : ℕ → ℕ → Bool) (weight : ℕ → ℕ) → So (weighs? n may_trigger weight)
-    → Weighs n may_trigger weight
-unfolding weighs?
-weighs-elim n may_trigger weight h r l = leb-true _ _ (all-elim _ n h r l)
 
 -- ── pairs ──
 module _ (𝓢 : System) where
@@ -61,17 +36,3 @@ module _ (𝓢 : System) where
 
   unfoldable pub across? : (ℕ → Bool) → (ℕ → Bool) → Bool
   across? R₁ R₂ = all (λ a. all (λ b. implies (R₁ a) (implies (R₂ b) (commute a b))) n) n
-
-  pub closed-elim : (R₁ R₂ : ℕ → Bool) → So (closed? R₁ R₂) → Closed 𝓢 R₁ R₂
-  unfolding closed?
-  closed-elim R₁ R₂ h a r b la lr lb x t g y =
-      implies-elim (R₂ b) (R₁ r)
-      (implies-elim (goes_before r b) _
-      (implies-elim (may_trigger a r) _
-      (implies-elim (R₁ a) _ (all-elim _ n (all-elim _ n (all-elim _ n h a la) r lr) b lb) x) t) g) y
-
-  pub across_elim : (R₁ R₂ : ℕ → Bool) → So (across? R₁ R₂) → (a b : ℕ) → a < n → b < n → So (R₁ a)
-      → So (R₂ b) → So (commute a b)
-  unfolding across?
-  across_elim R₁ R₂ h a b la lb x y =
-      implies-elim (R₂ b) (commute a b) (implies-elim (R₁ a) _ (all-elim _ n (all-elim _ n h a la) b lb) x) y

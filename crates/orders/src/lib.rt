@@ -1,2 +1,3 @@
-// Mathematics only: there is no code here. The theorem is in specs/, and specs/Lib.antt is its table of contents.
+// Mathematics only: there is no code here. The definitions are in specs/, the theorem is in proofs/, and the Lib.antt of each is its table
+// of contents.
 #![tactic(auto)]

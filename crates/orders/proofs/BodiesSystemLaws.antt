@@ -5,13 +5,16 @@ use Rattle.std.proofs.Common.{sym, ◌∙◌, ap, subst, inl, inr}
 use Rattle.std.proofs.Math.Logic.{Ne-symm, Equivalence}
 use Rattle.std.proofs.Math.Bool.{So, Bool-discrete}
 use Rattle.std.proofs.Math.Decide.{ℕ_discrete}
-use Rattle.orders.specs.Overwritten.{put, put_same, put_other}
-use Rattle.orders.specs.System.{System, weighs⇒no_self_trigger}
-use Rattle.orders.specs.Cells.{Cells, EqualOn, equal_on_sym}
+use Rattle.orders.specs.Overwritten.{put}
+use Rattle.orders.proofs.OverwrittenLaws.{put_same, put_other}
+use Rattle.orders.specs.System.{System}
+use Rattle.orders.proofs.SystemLaws.{weighs⇒no_self_trigger}
+use Rattle.orders.specs.Cells.{Cells, EqualOn}
+use Rattle.orders.proofs.CellsLaws.{equal_on_sym}
 use Rattle.orders.specs.Kept.{Memory}
 use Rattle.orders.specs.Bodies.{Bodies, State, BodyFacts, Priorities, Analysis, waits, step, Same, runner}
-use Rattle.orders.specs.BodiesCells.{quiet-on}
-use Rattle.orders.specs.BodiesSwap.{kept-own, kept-other, step-swap}
+use Rattle.orders.proofs.BodiesCellsLaws.{quiet-on}
+use Rattle.orders.proofs.BodiesSwapLaws.{kept-own, kept-other, step-swap}
 
 module _ (k : ℕ) (E : Memory k) (B : Bodies k) where
   open E use {rest, alike, alike_is, wakeful-alike, rest-alike, rest_sleeps}

@@ -4,11 +4,13 @@
 use Rattle.std.specs.Prelude.{◌≡◌, refl, ◌≢◌, Bool, ℕ}
 use Rattle.std.proofs.Common.{sym, ◌∙◌, ap}
 use Rattle.std.proofs.Math.Decide.{ℕ_discrete}
-use Rattle.orders.specs.Overwritten.{put, put_same, put_other, put-swap}
+use Rattle.orders.specs.Overwritten.{put}
+use Rattle.orders.proofs.OverwrittenLaws.{put_same, put_other, put-swap}
 use Rattle.orders.specs.Cells.{Cells}
 use Rattle.orders.specs.Kept.{Memory}
 use Rattle.orders.specs.Bodies.{Bodies, State, BodyFacts, Analysis, step, Same}
-use Rattle.orders.specs.BodiesCells.{Commuting, commuting_flip, reads-free, watches-free, cells-swap, by_one}
+use Rattle.orders.specs.BodiesCells.{Commuting}
+use Rattle.orders.proofs.BodiesCellsLaws.{commuting_flip, reads-free, watches-free, cells-swap, by_one}
 
 module _ (k : ℕ) (E : Memory k) (B : Bodies k) where
   open E use {rest, moved}
