@@ -1,3 +1,2 @@
 -- Laws that `game` stands on and passes on to other crates.
-pub mod GamePartsLaws
 pub mod LoopLaws

@@ -15,26 +15,28 @@ use Rattle.report_lines.proofs.copy.Tie as tie
 long : (s : tie.Start) → length (take s.args.n s.args.text.now) ≡ s.args.n
 long s = length-take-le s.args.n s.args.text.now s.requires
 
-returns : tie.Need-returns
+returns : tie.Need-returns-then-out-n
 returns c =
-    let s = c.before.before.before in
-    rw (long s, lt-ltb (length s.args.out.now) s.args.n (omega arith)) refl
+    rw (long c, lt-ltb (length c.args.out.now) c.args.n (omega arith)) refl
 
-slice-aggregate-put-bytes : tie.Need-slice-aggregate-put-bytes
+slice-aggregate-put-bytes : tie.Need-slice_bounds-put_bytes-end
 slice-aggregate-put-bytes c = sym (long c.before.before.before.before.before)
 
-put-bytes-requires : tie.Need-put-bytes-requires
+put-bytes-requires : tie.Need-put_bytes-requires
 put-bytes-requires c κs = omega (arith, long c.before.before.before.before.before)
 
-returns-2 : tie.Need-returns-2
+returns-2 : tie.Need-returns
 returns-2 c =
-    let p = c.before.before in
-    let i = p.before.before.before in
-    let s = i.before.before.before in
-    let printed : Printed = record { number = s.args.a.number; place = s.args.a.place; length = s.args.n } in
-    rw (long s, le-ltb (length s.args.out.now) s.args.n (omega (arith, i.if1.false)))
-    (ap (λ (x : List ℕ). (printed, x)) p.put-bytes.ensures)
+    let printed : Printed = record { number = c.args.a.number; place = c.args.a.place; length = c.args.n } in
+    rw (long c, le-ltb (length c.args.out.now) c.args.n (omega (arith, c.if-out-n.false)))
+    (ap (λ (x : List ℕ). (printed, x)) c.put_bytes.ensures)
 
 pub copy_spec : {M : Type 1} → statement M
 copy_spec =
-    tie.close (tie.spec returns slice-aggregate-put-bytes put-bytes-requires (λ c. search rules) returns-2)
+    tie.close
+    (tie.spec
+    returns
+    slice-aggregate-put-bytes
+    put-bytes-requires
+    (λ c. search rules)
+    returns-2)

@@ -19,32 +19,27 @@ head c = (in_book c.args.book.now c.requires).inside.contents
 returns : tie.Need-returns
 unfolding four_lines pairs_line table_in
 returns c =
-    let p = c.before.before in
-    let e = p.before.before in
-    let n = e.before.before in
-    let j = n.before.before.before.before.before.before in
-    let f = j.judged.ensures in
-    let three = added_on (added_on n.numbered.ensures e.ends-line.ensures) p.pairs-line.ensures in
+    let f = c.judged-f.ensures in
+    let three = added_on (added_on c.numbered-first.ensures c.ends_line-second.ensures) c.pairs_line-third.ensures in
     record {
       text = record {
-        report = report_in j.judged.result.summary f.marks;
+        report = report_in c.judged-f.result.summary f.marks;
         says = f.says;
         bound = f.bound;
         bounds = f.bounds;
-        is = rw (← f.is) (added_first (added_on three c.cleared-line.ensures));
+        is = rw (← f.is) (added_first (added_on three c.cleared_line.ensures));
       };
       size = search rules;
       most = search rules;
     }
 
-pub four-spec : {M : Type 1} → statement M
-four-spec =
+pub four_spec : {M : Type 1} → statement M
+four_spec =
     tie.close
     (tie.spec
     (λ c κs. search rules)
     (λ c. search rules)
-    (λ c. omega (arith, head c.before.before.before.before.before.before))
-    (λ c. omega (arith, head c.before.before.before.before.before.before.before))
+    (λ c. search rules)
     (λ c κs. search rules)
     (λ c κs. search rules)
     (λ c κs. search rules)

@@ -22,57 +22,62 @@ use borrow.Author.Rules.{rules}
 use Rattle.report_lines.proofs.judged.Statement.{statement}
 use Rattle.report_lines.proofs.judged.Tie as tie
 
-module _ (c : tie.After-taken) where
+module _ (c : tie.After-taken-m) where
   abbrev start : tie.Start
   start = c.before.before
 
   abbrev book : List ℕ
   book = start.args.book.now
 
-  orderly : Orderly c.taken.result
+  orderly : Orderly c.taken-m.result
   orderly =
-      let bytes : Bytes book = record { small = λ j. omega (arith, c.before.shared-slice-known.given j) } in
-      subst Orderly (sym c.taken.ensures) (body-orderly book bytes start.pre)
+      let bytes : Bytes book = record { small = λ j. omega (arith, c.shared_slice_known-1.given j) } in
+      subst Orderly (sym c.taken-m.ensures) (body-orderly book bytes start.requires)
 
 -- what is past the taking of the masks
-abbrev lent : tie.After-marks → tie.After-taken
+abbrev lent : tie.After-marks-1 → tie.After-taken-m
 lent c = c.before.before.before.before.before.before.before.before.before
 
-judged-requires : tie.Need-judged-requires
+judged-requires : tie.Need-judged-v-requires
 unfolding no_marks
 judged-requires c κs = (orderly (lent c), refl)
 
 below-requires : tie.Need-below-requires
 below-requires c κs = (orderly (lent c.before.before.before)).few
 
-bound-requires : tie.Need-bound-requires
-bound-requires c κs = let t = lent c.before.before.before.before in triggering-orderly t.taken.result (orderly t)
+bound-requires : tie.Need-bound-b-requires
+bound-requires c κs = let t = lent c.before.before.before.before in triggering-orderly t.taken-m.result (orderly t)
 
 returns : tie.Need-returns
 unfolding table_in
 returns c =
-    let l = c.before in
-    let v = l.before.before.before in
-    let t = lent v.before in
+    let t = lent c.before.before.before.before.before in
     let s = book t in
-    let m = t.taken.result in
-    let e = t.taken.ensures in
-    let marks = v.judged.new.1.1.1.1.1.0 in
-    let set = l.below.result in
-    let b = c.bound.result in
-    let sound = (read_done s (start t).pre).sound in
+    let m = t.taken-m.result in
+    let e = t.taken-m.ensures in
+    let marks = c.judged-v.new.marks in
+    let set = c.below.result in
+    let b = c.bound-b.result in
+    let sound = (read_done s (start t).requires).sound in
     let n : m.n ≡ n_of s = ap (λ (m : Masks). m.n) e in
     let whole : set ≡ 2 ^ n_of s - 1 =
-    all-rules (n_of s) set (few-rules s (start t).pre) (omega (arith, l.below.type-inv)) (λ k. l.below.ensures k ∙ ap (ltb k) n) in
-    let bounded : Bounded m set b = bounded_in m set b c.bound.ensures in
+    all-rules (n_of s) set (few-rules s (start t).requires) (omega (arith, c.below.type_inv)) (λ k. c.below.ensures k ∙ ap (ltb k) n) in
+    let bounded : Bounded m set b = bounded_in m set b c.bound-b.ensures in
     record {
       marks = marks;
-      says = sound_reports sound (subst (λ (m : Masks). Reported m (report_in v.judged.result marks)) e v.judged.ensures);
+      says = sound_reports sound (subst (λ (m : Masks). Reported m (report_in c.judged-v.result marks)) e c.judged-v.ensures);
       bound = b;
       bounds = subst (λ (x : ℕ). BoundSays (table_in s) x b) whole
           (sound-bounds sound (subst (λ (m : Masks). Bounded m set b) e bounded));
       is = refl;
     }
 
-pub judged-spec : {M : Type 1} → statement M
-judged-spec = tie.close (tie.spec (λ c κs. search rules) judged-requires below-requires bound-requires returns)
+pub judged_spec : {M : Type 1} → statement M
+judged_spec =
+    tie.close
+    (tie.spec
+    (λ c κs. search rules)
+    judged-requires
+    below-requires
+    bound-requires
+    returns)
