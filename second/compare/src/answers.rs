@@ -42,7 +42,7 @@ impl Answers {
         Answers::of(env!("GWAUNIDOR_ANSWERS"))
     }
 
-    /// Over the library for the processor at hand, under valgrind, which ends
+    /// Over the archive that is delivered, under valgrind, which ends
     /// the program at the first error.
     pub fn watched() -> Answers {
         Answers::of(env!("GWAUNIDOR_WATCHED"))
