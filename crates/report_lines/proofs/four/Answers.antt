@@ -9,14 +9,9 @@ use Rattle.report_lines.specs.FourLines.{four_lines, pairs_line}
 use Rattle.report_text.proofs.AddedLaws.{added_on, added_first}
 use Rattle.report_masks.proofs.BodyMasksLaws.{in_book}
 use borrow.Author.Rules.{rules}
-use Rattle.report_lines.proofs.four.Statement.{statement}
-use Rattle.report_lines.proofs.four.Tie as tie
+use Rattle.report_lines.proofs.four.Goals as goal
 
--- a book that was read has its head
-head : (c : tie.Start) → 4 + 4 * n_of c.args.book.now ≤ length c.args.book.now
-head c = (in_book c.args.book.now c.requires).inside.contents
-
-returns : tie.Need-returns
+pub returns : goal.returns
 unfolding four_lines pairs_line table_in
 returns c =
     let f = c.judged-f.ensures in
@@ -33,15 +28,8 @@ returns c =
       most = search rules;
     }
 
-pub four_spec : {M : Type 1} → statement M
-four_spec =
-    tie.close
-    (tie.spec
-    (λ c κs. search rules)
-    (λ c. search rules)
-    (λ c. search rules)
-    (λ c κs. search rules)
-    (λ c κs. search rules)
-    (λ c κs. search rules)
-    (λ c κs. search rules)
-    returns)
+pub bounds-book-1 : goal.bounds-book-1
+bounds-book-1 c = omega (arith, (in_book c.args.book.now c.requires).inside.contents)
+
+pub bounds-book-2 : goal.bounds-book-2
+bounds-book-2 c = omega (arith, (in_book c.args.book.now c.requires).inside.contents)
