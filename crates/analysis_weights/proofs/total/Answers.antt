@@ -40,11 +40,14 @@ loop-x-preserved c =
     let inv = c.loop-x.invariant in
     let s = c.args in
     let go = turn s.m s.w.now _ _ in
-    elim c.if-has.branch [ then-has w ↦ (omega arith, w.t-is ∙ go true (sym c.has.ensures ∙ w.if-has.true) inv.1, inv.2) | else-has w ↦ (
-      omega arith,
-      w.t-is ∙ sym (add-zero _) ∙ go false (sym c.has.ensures ∙ w.if-has.false) inv.1,
-      inv.2,
-    ) ]
+    elim c.if-has.branch [
+      | then-has w ↦ (omega arith, w.t-is ∙ go true (sym c.has.ensures ∙ w.if-has.true) inv.1, inv.2)
+      | else-has w ↦ (
+        omega arith,
+        w.t-is ∙ sym (add-zero _) ∙ go false (sym c.has.ensures ∙ w.if-has.false) inv.1,
+        inv.2,
+      )
+    ]
 
 pub returns : goal.returns
 returns c =

@@ -14,7 +14,7 @@ loop-i-preserved c =
     let i = c.loop-i.i in (
       omega arith,
       c.with_row-m.ensures ∙ ap (λ (m : Masks). with_row m i (get_or rows i no_record)) c.loop-i.invariant.1
-      ∙ copy_more rows i,
+          ∙ copy_more rows i,
     )
 
 pub analysed-requires : goal.analysed-requires

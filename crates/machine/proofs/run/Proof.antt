@@ -66,16 +66,15 @@ goes-before-requires c κs =
     (search rules, c.count-n.ensures.0, few c.before.before.before)
 
 runs-requires : tie.Need-runs-requires
-runs-requires c κs =
-    (
-      record {
-        long = search rules;
-        sound = sound-here (early c.before.before.before.before.before.before.before.before.before);
-        watches = c.watches-row.ensures;
-        before = c.goes_before-rows.ensures;
-      },
-      fits c.before.before.before.before.before.before.before.before.before,
-    )
+runs-requires c κs = (
+  record {
+    long = search rules;
+    sound = sound-here (early c.before.before.before.before.before.before.before.before.before);
+    watches = c.watches-row.ensures;
+    before = c.goes_before-rows.ensures;
+  },
+  fits c.before.before.before.before.before.before.before.before.before,
+)
 
 returns-3 : tie.Need-returns
 returns-3 c =

@@ -15,11 +15,14 @@ loop-x-init c = (search rules, picked_none _)
 pub loop-x-preserved : goal.loop-x-preserved
 loop-x-preserved c =
     let inv = c.loop-x.invariant in
-    elim c.if-meets.branch [ then-meets w ↦ (
-      omega arith,
-      rw w.a-is
-          (picked_take _ _ _ _ inv.1 (sym c.meets.ensures ∙ w.if-meets.true) w.with-a.ensures),
-    ) | else-meets w ↦ (omega arith, rw w.a-is (picked_skip _ _ _ inv.1 (sym c.meets.ensures ∙ w.if-meets.false))) ]
+    elim c.if-meets.branch [
+      | then-meets w ↦ (
+        omega arith,
+        rw w.a-is
+            (picked_take _ _ _ _ inv.1 (sym c.meets.ensures ∙ w.if-meets.true) w.with-a.ensures),
+      )
+      | else-meets w ↦ (omega arith, rw w.a-is (picked_skip _ _ _ inv.1 (sym c.meets.ensures ∙ w.if-meets.false)))
+    ]
 
 pub returns : goal.returns
 returns c s l = picked_all _ _ _ c.loop-x.invariant.1 s (omega arith)

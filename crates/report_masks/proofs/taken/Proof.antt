@@ -43,15 +43,14 @@ module _ (c : tie.Start invariant-loop-i decreases-loop-i) where
   contents = (in_book book c.requires).inside.contents
 
 loop-holds : tie.Need-loop-i-init invariant-loop-i decreases-loop-i
-loop-holds c =
-    (
-      search rules,
-      omega (arith, c.count-n.ensures.0, few-rules (book c.before.before.before) c.requires),
-      refl,
-      refl,
-      refl,
-      refl,
-    )
+loop-holds c = (
+  search rules,
+  omega (arith, c.count-n.ensures.0, few-rules (book c.before.before.before) c.requires),
+  refl,
+  refl,
+  refl,
+  refl,
+)
 
 -- in a turn, body i is one of the book's
 module _ (c : tie.In-loop-i invariant-loop-i decreases-loop-i) where
@@ -104,12 +103,11 @@ module _ (c : tie.After-counts_at-c invariant-loop-i decreases-loop-i) where
       (low found.before)
 
 reads-requires : tie.Need-reads-requires invariant-loop-i decreases-loop-i
-reads-requires c κs =
-    (
-      room c.before,
-      omega (arith, c.counts_at-c.ensures.tests),
-      omega (arith, c.counts_at-c.ensures.assigns),
-    )
+reads-requires c κs = (
+  room c.before,
+  omega (arith, c.counts_at-c.ensures.tests),
+  omega (arith, c.counts_at-c.ensures.assigns),
+)
 
 writes-requires : tie.Need-writes-requires invariant-loop-i decreases-loop-i
 writes-requires c κs = (room c.before.before, omega (arith, c.counts_at-c.ensures.assigns))

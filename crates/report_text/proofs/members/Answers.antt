@@ -35,8 +35,11 @@ loop-i-preserved c =
     let told = c.has.ensures in (
       omega arith,
       at.invariant.1,
-      elim c.if-has.branch [ then-has w ↦ rw (w.out-is, w.end-is) (next m at.i at.invariant.2 true (sym told ∙ w.if-has.true) w.number-end.ensures) | else-has w ↦ rw (w.out-is, w.end-is)
-          (next m at.i at.invariant.2 false (sym told ∙ w.if-has.false) (added_as (added_none at.out at.end) refl (omega arith))) ],
+      elim c.if-has.branch [
+        | then-has w ↦ rw (w.out-is, w.end-is) (next m at.i at.invariant.2 true (sym told ∙ w.if-has.true) w.number-end.ensures)
+        | else-has w ↦ rw (w.out-is, w.end-is)
+            (next m at.i at.invariant.2 false (sym told ∙ w.if-has.false) (added_as (added_none at.out at.end) refl (omega arith)))
+      ],
     )
 
 pub returns : goal.returns

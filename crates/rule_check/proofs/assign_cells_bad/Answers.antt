@@ -11,9 +11,9 @@ loop-j-init c = (search rules, sought_none)
 
 pub loop-j-preserved : goal.loop-j-preserved
 loop-j-preserved c = (
-      search rules,
-      rw (c.assign_cell_bad-bad.ensures, c.read_assign-x.ensures) (sought_more c.loop-j.invariant.1 refl),
-    )
+  search rules,
+  rw (c.assign_cell_bad-bad.ensures, c.read_assign-x.ensures) (sought_more c.loop-j.invariant.1 refl),
+)
 
 pub returns : goal.returns
 returns c = sought_all c.loop-j.invariant.1 c.loop-j.invariant.0 c.loop-j-test.false

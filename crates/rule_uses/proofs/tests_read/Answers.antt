@@ -14,10 +14,10 @@ loop-j-init c = (search rules, united_none)
 
 pub loop-j-preserved : goal.loop-j-preserved
 loop-j-preserved c = (
-      search rules,
-      united_more c.loop-j.invariant.1 c.test_reads-m.result
-          (λ x. c.test_reads-m.ensures x ∙ ap (λ (y : Test). ltb x 32 && test_reads y x) c.read_test.ensures),
-    )
+  search rules,
+  united_more c.loop-j.invariant.1 c.test_reads-m.result
+      (λ x. c.test_reads-m.ensures x ∙ ap (λ (y : Test). ltb x 32 && test_reads y x) c.read_test.ensures),
+)
 
 pub returns : goal.returns
 returns c = united_all c.loop-j.invariant.1 c.loop-j.invariant.0 c.loop-j-test.false

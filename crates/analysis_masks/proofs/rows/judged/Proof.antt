@@ -54,11 +54,10 @@ triggers-requires c κs =
     (c.requires.0.few, subst (Among c.args.n) (sym (may_in (lent c))) (may-within (lent c) c.requires.0))
 
 clashes-requires : tie.Need-clashes-clash-requires
-clashes-requires c κs =
-    (
-      c.requires.0.few,
-      subst (λ (f : ℕ → ℕ → Bool). Among c.args.n (λ r x. not (f r x))) (sym (commute_in (lent c.before))) (clash-within (lent c.before) c.requires.0),
-    )
+clashes-requires c κs = (
+  c.requires.0.few,
+  subst (λ (f : ℕ → ℕ → Bool). Among c.args.n (λ r x. not (f r x))) (sym (commute_in (lent c.before))) (clash-within (lent c.before) c.requires.0),
+)
 
 turned-requires : tie.Need-turned-ahead-requires
 turned-requires c κs =

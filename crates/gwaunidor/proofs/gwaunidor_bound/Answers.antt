@@ -1,0 +1,6 @@
+-- What the call of `gwaunidor_report` ensures.
+use borrow.Author.Rules.{rules}
+use Rattle.gwaunidor.proofs.gwaunidor_bound.Goals as goal
+
+pub returns : goal.returns
+returns c = c.bound.ensures

@@ -1,0 +1,6 @@
+-- What the call of `gwaunidor_run` ensures.
+use borrow.Author.Rules.{rules}
+use Rattle.gwaunidor.proofs.gwaunidor_step.Goals as goal
+
+pub returns : goal.returns
+returns c = c.step.ensures
