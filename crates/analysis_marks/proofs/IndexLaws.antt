@@ -1,6 +1,6 @@
 -- Distinct pairs have distinct places, all below 496, and every place below 496 is that of a pair.
 use mathlib.Core.Path.{◌≡◌, refl, ap}
-use mathlib.Core.Logic.{◌⊎◌, ⊎_elim}
+use mathlib.Core.Logic.{⊎_elim}
 use Prim.Native.Nat.{ℕ, zero, suc, ◌+◌, ◌-◌, ◌≤◌, ◌<◌}
 use native.Mathlib.Nat.{le_refl, le_trans, le-suc, not-suc-le-zero}
 use native.Mathlib.Decide.{le_ind}

@@ -6,7 +6,7 @@ use Rattle.analysis_pairs.specs.declared.Masks.{Masks}
 use Rattle.analysis_pairs.specs.RuleMasks.{commute, triggers, masks_by}
 use Rattle.mask.specs.Search.{some}
 use Rattle.graph.specs.GraphInner.{Edge}
-use Rattle.analysis_pairs.specs.Rules.{Grown, first, second, Rules, Passes, Culprits}
+use Rattle.analysis_pairs.specs.Rules.{Grown, Rules, Passes, Culprits}
 
 -- v is what r watches, reads or writes
 abbrev pub Touches : List ℕ → List ℕ → List ℕ → ℕ → ℕ → Type 0

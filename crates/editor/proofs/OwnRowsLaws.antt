@@ -11,7 +11,6 @@ use Rattle.mask.specs.Mask.{beyond}
 use Rattle.mask.proofs.MaskLaws.{beyond_law}
 use Rattle.rule.proofs.FillLaws.{upto-same, length-upto, get_or-upto}
 use Rattle.rule.specs.Fill.{upto}
-use Rattle.rule.specs.Uses.{reads, writes}
 use Rattle.table.specs.Table.{Table, rule_at, precedes_of}
 use Rattle.table.specs.declared.Answer.{Answer}
 use Rattle.graph.specs.Graph.{cyclic}

@@ -1,5 +1,5 @@
 -- Runs of bytes one after another.
-use Rattle.std.specs.Prelude.{List, [], ◌++◌, ℕ, zero, suc, ◌+◌}
+use Rattle.std.specs.Prelude.{List, [], ◌++◌, ℕ, zero, suc}
 
 -- f 0, f 1, .., f (n - 1), one after another
 unfoldable pub joined : ℕ → (ℕ → List ℕ) → List ℕ

@@ -1,5 +1,5 @@
 -- An array of N slots of which the first n are filled and the rest hold d: "In memory, slots past a count are all zero."
-use Rattle.std.specs.Prelude.{List, [], ◌∷◌, ◌++◌, ℕ, zero, suc, ◌+◌, ◌-◌, replicate}
+use Rattle.std.specs.Prelude.{List, [], ◌∷◌, ◌++◌, ℕ, zero, suc, ◌-◌, replicate}
 
 module _ {A : Type 0} where
   -- f 0, f 1, .., f (n - 1)

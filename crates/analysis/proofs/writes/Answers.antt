@@ -1,9 +1,8 @@
 use mathlib.Core.Path.{refl}
-use Prim.Native.Nat.{◌-◌}
 use native.Mathlib.Nat.{le_refl}
 use native.Mathlib.Omega.{arith}
 use Rattle.rule.specs.Uses.{writes}
-use Rattle.analysis.proofs.TableMasksLaws.{few-from, counted-from, RowSoFar, sofar_more, sofar_all}
+use Rattle.analysis.proofs.TableMasksLaws.{few-from, counted-from, sofar_more, sofar_all}
 use borrow.Author.Rules.{rules}
 use Rattle.analysis.proofs.writes.Goals as goal
 

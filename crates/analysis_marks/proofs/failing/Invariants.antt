@@ -1,16 +1,8 @@
 -- The loop has the count of the marks 2 passed.
-use mathlib.Core.Path.{◌≡◌, refl, sym, ap, ◌∙◌}
-use mathlib.Core.Logic.{⊎_elim}
-use mathlib.Core.Bool.{Bool, true, false}
-use Prim.Native.Nat.{ℕ, ◌≤◌, ◌-◌, ◌+◌}
-use native.Mathlib.Nat.{add-zero, le_antisymm}
-use native.Mathlib.Omega.{arith}
-use borrow.Author.Tests.{eq-eqb, ne_eqb}
+use mathlib.Core.Path.{◌≡◌}
+use Prim.Native.Nat.{◌≤◌}
 use Rattle.mask.specs.Search.{count}
-use Rattle.mask.proofs.SearchLaws.{one_if, count-max}
-use Rattle.mask.proofs.CountsLaws.{count-more}
 use Rattle.analysis_marks.specs.Marks.{fails_at}
-use borrow.Author.Rules.{rules}
 use Rattle.analysis_marks.proofs.failing.Given as goal
 
 abbrev pub invariant-loop-k : goal.invariant-loop-k

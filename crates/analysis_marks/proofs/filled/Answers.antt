@@ -1,9 +1,8 @@
 use mathlib.Core.Path.{◌≡◌, refl, sym, ◌∙◌, subst}
-use Prim.Native.Nat.{ℕ, ◌≤◌, ◌-◌}
+use Prim.Native.Nat.{ℕ}
 use native.Mathlib.Numerals.{add-one}
 use native.Mathlib.Omega.{arith}
 use Rattle.mask.proofs.LoopsLaws.{upto-none}
-use Rattle.analysis_pairs.specs.AnalysisPairsInner.{Mutual}
 use Rattle.analysis_marks.specs.Index.{start}
 use Rattle.analysis_marks.proofs.IndexLaws.{start-next, start_mono, start-all}
 use Rattle.analysis_marks.specs.AnalysisMarksInner.{graphs_in, Filled, MarkAt, no_marks}

@@ -1,15 +1,9 @@
 -- The rows before row i are filled in, and `at` is where row i starts.
-use mathlib.Core.Path.{◌≡◌, refl, sym, ◌∙◌, subst}
-use Prim.Native.Nat.{ℕ, ◌≤◌, ◌-◌}
-use native.Mathlib.Numerals.{add-one}
-use native.Mathlib.Omega.{arith}
-use Rattle.mask.proofs.LoopsLaws.{upto-none}
+use mathlib.Core.Path.{◌≡◌}
+use Prim.Native.Nat.{◌≤◌}
 use Rattle.analysis_pairs.specs.AnalysisPairsInner.{Mutual}
 use Rattle.analysis_marks.specs.Index.{start}
-use Rattle.analysis_marks.proofs.IndexLaws.{start-next, start_mono, start-all}
-use Rattle.analysis_marks.specs.AnalysisMarksInner.{graphs_in, Filled, MarkAt, no_marks}
-use Rattle.analysis_marks.proofs.MarkingLaws.{zeros-size, all-marks}
-use borrow.Author.Rules.{rules}
+use Rattle.analysis_marks.specs.AnalysisMarksInner.{graphs_in, Filled}
 use Rattle.analysis_marks.proofs.filled.Given as goal
 
 abbrev pub invariant-loop-i : goal.invariant-loop-i

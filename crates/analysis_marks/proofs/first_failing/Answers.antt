@@ -3,7 +3,6 @@ use native.Mathlib.Omega.{arith}
 use Rattle.mask.proofs.SearchLaws.{least-is}
 use Rattle.analysis_marks.specs.Marks.{fails_at}
 use Rattle.analysis_marks.proofs.MarkedLaws.{first-none, first_some}
-use borrow.Author.Rules.{rules}
 use Rattle.analysis_marks.proofs.first_failing.Goals as goal
 use Rattle.analysis_marks.proofs.first_failing.Goals.{Else-k-eq496}
 

@@ -1,6 +1,3 @@
-use mathlib.Core.Path.{◌≡◌}
-use mathlib.Core.Bool.{false}
-use Prim.Native.Nat.{ℕ, ◌≤◌, ◌<◌, ◌-◌}
 use native.Mathlib.Nat.{lt_irrefl}
 use native.Mathlib.Omega.{arith}
 use borrow.Author.Count.{below_none, below_more}

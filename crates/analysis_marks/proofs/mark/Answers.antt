@@ -1,7 +1,6 @@
 -- The judgement says whether the pair passes.
 use Rattle.analysis_pairs.proofs.RulesLaws.{fails-not-passes}
 use Rattle.analysis_marks.specs.AnalysisMarksInner.{good, bad}
-use borrow.Author.Rules.{rules}
 use Rattle.analysis_marks.proofs.mark.Goals as goal
 
 pub returns-then-w : goal.returns-then-w

@@ -1,5 +1,4 @@
-use mathlib.Core.Path.{◌≡◌}
-use Prim.Native.Nat.{◌+◌, ◌<◌}
+use Prim.Native.Nat.{◌<◌}
 use native.Mathlib.Omega.{arith}
 use Rattle.analysis_marks.specs.Index.{start}
 use Rattle.analysis_marks.proofs.IndexLaws.{start-next, row_low}

@@ -1,11 +1,7 @@
 -- What is left of k lies from the start of row i on. The last row starts before 496, so the rows do not run out.
 use mathlib.Core.Path.{◌≡◌}
 use Prim.Native.Nat.{◌+◌, ◌<◌}
-use native.Mathlib.Omega.{arith}
 use Rattle.analysis_marks.specs.Index.{start}
-use Rattle.analysis_marks.proofs.IndexLaws.{start-next, row_low}
-use native.Mathlib.Numerals.{add-one}
-use borrow.Author.Rules.{rules}
 use Rattle.analysis_marks.proofs.pair_at.Given as goal
 
 abbrev pub invariant-loop-i : goal.invariant-loop-i

@@ -1,14 +1,10 @@
 use mathlib.Core.Path.{◌≡◌}
-use mathlib.Core.Logic.{⊎_elim}
-use Prim.Native.Nat.{◌≤◌, ◌<◌, ◌-◌, ◌+◌}
+use Prim.Native.Nat.{◌<◌, ◌-◌, ◌+◌}
 use native.Mathlib.Omega.{arith}
-use Rattle.mask.specs.MaskInner.{Upto}
-use Rattle.analysis_pairs.specs.AnalysisPairsInner.{Mutual}
 use Rattle.analysis_marks.specs.Index.{start}
 use Rattle.analysis_marks.proofs.IndexLaws.{index-lt}
-use Rattle.analysis_marks.specs.AnalysisMarksInner.{graphs_in, MarkAt, no_marks}
+use Rattle.analysis_marks.specs.AnalysisMarksInner.{graphs_in}
 use Rattle.analysis_marks.proofs.MarkingLaws.{mark-stored, mark-kept, row-end}
-use borrow.Author.Rules.{rules}
 use Rattle.analysis_marks.proofs.row.Goals as goal
 use Rattle.analysis_marks.proofs.row.Goals.{In-loop-j, else-unordered, then-unordered}
 

@@ -1,15 +1,10 @@
 -- The marks before row i and those of row i up to j are filled in; what is left of the row stands for absent rules.
 use mathlib.Core.Path.{◌≡◌}
-use mathlib.Core.Logic.{⊎_elim}
 use Prim.Native.Nat.{◌≤◌, ◌<◌, ◌-◌, ◌+◌}
-use native.Mathlib.Omega.{arith}
 use Rattle.mask.specs.MaskInner.{Upto}
 use Rattle.analysis_pairs.specs.AnalysisPairsInner.{Mutual}
 use Rattle.analysis_marks.specs.Index.{start}
-use Rattle.analysis_marks.proofs.IndexLaws.{index-lt}
 use Rattle.analysis_marks.specs.AnalysisMarksInner.{graphs_in, MarkAt, no_marks}
-use Rattle.analysis_marks.proofs.MarkingLaws.{mark-stored, mark-kept, row-end}
-use borrow.Author.Rules.{rules}
 use Rattle.analysis_marks.proofs.row.Given as goal
 
 abbrev pub invariant-loop-j : goal.invariant-loop-j

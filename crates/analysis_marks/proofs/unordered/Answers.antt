@@ -5,7 +5,6 @@ use mathlib.Core.Bool.{false, false≢true}
 use Prim.Native.Nat.{ℕ}
 use Rattle.analysis_pairs.proofs.TurnedLaws.{turned-edge}
 use Rattle.analysis_marks.specs.AnalysisMarksInner.{WhetherUnordered}
-use borrow.Author.Rules.{rules}
 use Rattle.analysis_marks.proofs.unordered.Goals as goal
 
 is-ordered : {before : ℕ → ℕ → Type 0} {i j : ℕ} → before i j ⊎ before j i → WhetherUnordered before i j false

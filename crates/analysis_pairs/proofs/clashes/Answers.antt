@@ -1,9 +1,8 @@
 use mathlib.Core.Path.{◌∙◌}
 use mathlib.Core.List.{[]}
-use Prim.Native.Nat.{ℕ, ◌≤◌, ◌-◌}
+use Prim.Native.Nat.{ℕ}
 use native.Mathlib.Omega.{arith}
-use lib.ListN.{replicate, length-replicate}
-use Rattle.mask.specs.MaskInner.{Upto}
+use lib.ListN.{length-replicate}
 use Rattle.mask.proofs.LoopsLaws.{upto-none, upto-store}
 use Rattle.analysis_pairs.specs.AnalysisPairsInner.{clashes, masks_in, clashing}
 use Rattle.analysis_pairs.proofs.ClashingLaws.{clash_law}

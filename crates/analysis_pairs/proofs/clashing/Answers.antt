@@ -4,7 +4,6 @@ use mathlib.Core.Bool.{Bool, not, ◌&&◌, ◌||◌}
 use lib.Dec.{eqb}
 use Rattle.mask.proofs.BitsLaws.{has-or}
 use Rattle.analysis_pairs.specs.AnalysisPairsInner.{clashing}
-use borrow.Author.Rules.{rules}
 use Rattle.analysis_pairs.proofs.clashing.Goals as goal
 
 pub returns : goal.returns

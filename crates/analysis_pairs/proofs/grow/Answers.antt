@@ -6,7 +6,6 @@ use Rattle.mask.specs.Mask.{has}
 use Rattle.mask.proofs.BitsLaws.{has-or, has-and}
 use Rattle.analysis_pairs.proofs.TurnedLaws.{turned-met}
 use Rattle.analysis_pairs.specs.AnalysisPairsInner.{grows}
-use borrow.Author.Rules.{rules}
 use Rattle.analysis_pairs.proofs.grow.Goals as goal
 
 pub returns : goal.returns

@@ -1,12 +1,9 @@
 use mathlib.Core.Path.{ap, ◌∙◌}
 use mathlib.Core.Bool.{Bool, ◌||◌}
-use Prim.Native.Nat.{◌^◌, ◌-◌, ◌+◌}
 use native.Mathlib.Omega.{arith}
 use lib.Dec.{eqb}
 use Rattle.mask.proofs.BitsLaws.{has-zero}
-use Rattle.analysis_pairs.specs.AnalysisPairsInner.{turned_of}
-use Rattle.analysis_pairs.proofs.GrowingLaws.{Growing, growing_start, growing_turn, growing_le, growing_end}
-use borrow.Author.Rules.{rules}
+use Rattle.analysis_pairs.proofs.GrowingLaws.{growing_start, growing_turn, growing_le, growing_end}
 use Rattle.analysis_pairs.proofs.grown.Goals as goal
 
 pub with-a-requires : goal.with-a-requires

@@ -8,7 +8,6 @@ use Rattle.mask.specs.Mask.{has}
 use Rattle.mask.proofs.MaskLaws.{lowest-is}
 use Rattle.analysis_pairs.proofs.TurnedLaws.{mutual_met}
 use Rattle.analysis_pairs.proofs.VerdictLaws.{guilty, judged-passing, judged-failing}
-use borrow.Author.Rules.{rules}
 use Rattle.analysis_pairs.proofs.judge.Goals as goal
 use Rattle.analysis_pairs.proofs.judge.Goals.{After-common, After-lowest-s}
 

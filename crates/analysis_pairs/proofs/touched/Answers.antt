@@ -1,10 +1,6 @@
-use mathlib.Core.Path.{◌≡◌, refl}
-use Prim.Native.Nat.{◌≤◌, ◌-◌}
+use mathlib.Core.Path.{refl}
 use native.Mathlib.Omega.{arith}
-use lib.ListN.{length}
-use Rattle.mask.specs.MaskInner.{Upto}
 use Rattle.mask.proofs.LoopsLaws.{upto-none, upto-store}
-use Rattle.analysis_pairs.specs.AnalysisPairsInner.{Touches}
 use borrow.Author.Rules.{rules}
 use Rattle.analysis_pairs.proofs.touched.Goals as goal
 

@@ -1,12 +1,9 @@
 -- The masks passed are the cells that each rule watches, reads or writes.
-use mathlib.Core.Path.{◌≡◌, refl}
-use Prim.Native.Nat.{◌≤◌, ◌-◌}
-use native.Mathlib.Omega.{arith}
+use mathlib.Core.Path.{◌≡◌}
+use Prim.Native.Nat.{◌≤◌}
 use lib.ListN.{length}
 use Rattle.mask.specs.MaskInner.{Upto}
-use Rattle.mask.proofs.LoopsLaws.{upto-none, upto-store}
 use Rattle.analysis_pairs.specs.AnalysisPairsInner.{Touches}
-use borrow.Author.Rules.{rules}
 use Rattle.analysis_pairs.proofs.touched.Given as goal
 
 abbrev pub invariant-loop-r : goal.invariant-loop-r

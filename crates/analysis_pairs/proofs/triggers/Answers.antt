@@ -1,12 +1,9 @@
-use Prim.Native.Nat.{ℕ, ◌≤◌, ◌-◌}
-use mathlib.Core.List.{List}
+use Prim.Native.Nat.{ℕ}
 use native.Mathlib.Omega.{arith}
-use lib.ListN.{get_or, replicate, length-replicate}
-use Rattle.mask.specs.Mask.{meet}
-use Rattle.mask.specs.MaskInner.{Upto}
+use lib.ListN.{length-replicate}
 use Rattle.mask.proofs.LoopsLaws.{upto-none, upto-store}
 use Rattle.analysis_pairs.specs.RuleMasks.{triggers, may_trigger}
-use Rattle.analysis_pairs.proofs.RowsLaws.{Row, rows-by}
+use Rattle.analysis_pairs.proofs.RowsLaws.{rows-by}
 use borrow.Author.Rules.{rules}
 use Rattle.analysis_pairs.proofs.triggers.Goals as goal
 use Rattle.analysis_pairs.proofs.triggers.Invariants.{May}

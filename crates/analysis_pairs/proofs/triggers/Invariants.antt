@@ -1,14 +1,10 @@
 -- The masks passed are those of the rules that each may trigger; the rest are 0, for rules that are not there.
-use Prim.Native.Nat.{ℕ, ◌≤◌, ◌-◌}
+use Prim.Native.Nat.{ℕ, ◌≤◌}
 use mathlib.Core.List.{List}
-use native.Mathlib.Omega.{arith}
-use lib.ListN.{get_or, replicate, length-replicate}
+use lib.ListN.{get_or, replicate}
 use Rattle.mask.specs.Mask.{meet}
 use Rattle.mask.specs.MaskInner.{Upto}
-use Rattle.mask.proofs.LoopsLaws.{upto-none, upto-store}
-use Rattle.analysis_pairs.specs.RuleMasks.{triggers, may_trigger}
-use Rattle.analysis_pairs.proofs.RowsLaws.{Row, rows-by}
-use borrow.Author.Rules.{rules}
+use Rattle.analysis_pairs.proofs.RowsLaws.{Row}
 use Rattle.analysis_pairs.proofs.triggers.Given as goal
 
 abbrev pub May : List ℕ → List ℕ → ℕ → ℕ → Type 0

@@ -1,15 +1,13 @@
 use mathlib.Core.Path.{ap, ◌∙◌}
 use mathlib.Core.Bool.{Bool, ◌||◌}
-use mathlib.Core.List.{List}
-use Prim.Native.Nat.{ℕ, ◌≤◌, ◌-◌}
+use Prim.Native.Nat.{ℕ}
 use native.Mathlib.Omega.{arith}
 use lib.Dec.{eqb}
-use lib.ListN.{replicate, length-replicate}
+use lib.ListN.{length-replicate}
 use Rattle.mask.proofs.BitsLaws.{has-zero}
-use Rattle.mask.specs.MaskInner.{Upto}
 use Rattle.mask.proofs.LoopsLaws.{upto-none, upto-store}
-use Rattle.analysis_pairs.specs.AnalysisPairsInner.{edge, turned_of}
-use Rattle.analysis_pairs.proofs.RowsLaws.{turned-within, Row, rows-by}
+use Rattle.analysis_pairs.specs.AnalysisPairsInner.{turned_of}
+use Rattle.analysis_pairs.proofs.RowsLaws.{turned-within, rows-by}
 use Rattle.analysis_pairs.proofs.TurnedLaws.{meet_one}
 use borrow.Author.Rules.{rules}
 use Rattle.analysis_pairs.proofs.turned.Goals as goal

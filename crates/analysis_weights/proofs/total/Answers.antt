@@ -1,13 +1,12 @@
 use mathlib.Core.Path.{◌≡◌, refl, sym, ◌∙◌, ap}
-use mathlib.Core.Logic.{⊎_elim}
 use mathlib.Core.Bool.{Bool, true, false, cond}
 use mathlib.Core.List.{List}
-use Prim.Native.Nat.{ℕ, ◌^◌, ◌-◌, ◌+◌, ◌≤◌, ◌<◌}
+use Prim.Native.Nat.{ℕ, ◌+◌}
 use native.Mathlib.Nat.{add-zero, le_antisymm}
 use native.Mathlib.Omega.{arith}
 use Rattle.mask.specs.Mask.{has}
 use Rattle.analysis_weights.specs.Weight.{total}
-use Rattle.analysis_weights.specs.AnalysisWeightsInner.{sum_below, weight_in}
+use Rattle.analysis_weights.specs.AnalysisWeightsInner.{weight_in}
 use Rattle.analysis_weights.proofs.SumsLaws.{total-le, total-more, sum_below-at}
 use borrow.Author.Rules.{rules}
 use Rattle.analysis_weights.proofs.total.Goals as goal

@@ -1,16 +1,8 @@
 -- The loop has the sum over the members passed. No sum on the way is more than all entries together.
-use mathlib.Core.Path.{◌≡◌, refl, sym, ◌∙◌, ap}
-use mathlib.Core.Logic.{⊎_elim}
-use mathlib.Core.Bool.{Bool, true, false, cond}
-use mathlib.Core.List.{List}
-use Prim.Native.Nat.{ℕ, ◌^◌, ◌-◌, ◌+◌, ◌≤◌, ◌<◌}
-use native.Mathlib.Nat.{add-zero, le_antisymm}
-use native.Mathlib.Omega.{arith}
-use Rattle.mask.specs.Mask.{has}
+use mathlib.Core.Path.{◌≡◌}
+use Prim.Native.Nat.{◌^◌, ◌≤◌, ◌<◌}
 use Rattle.analysis_weights.specs.Weight.{total}
 use Rattle.analysis_weights.specs.AnalysisWeightsInner.{sum_below, weight_in}
-use Rattle.analysis_weights.proofs.SumsLaws.{total-le, total-more, sum_below-at}
-use borrow.Author.Rules.{rules}
 use Rattle.analysis_weights.proofs.total.Given as goal
 
 abbrev pub invariant-loop-x : goal.invariant-loop-x

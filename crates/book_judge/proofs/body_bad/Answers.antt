@@ -7,7 +7,6 @@ use Rattle.rule.specs.Numbers.{counts_bad}
 use Rattle.table.specs.BodyStarts.{body_size}
 use Rattle.book_judge.specs.Read.{length_of}
 use Rattle.book_judge.specs.BookJudgeInner.{body_in, body_bad}
-use borrow.Author.Rules.{rules}
 use Rattle.book_judge.proofs.body_bad.Goals as goal
 
 pub returns-then-len-lt12 : goal.returns-then-len-lt12

@@ -1,13 +1,13 @@
-use mathlib.Core.Path.{◌≡◌, refl, ap₂, ◌∙◌}
+use mathlib.Core.Path.{◌≡◌, refl, ap₂}
 use mathlib.Core.Bool.{not}
-use Prim.Native.Nat.{ℕ, ◌+◌, ◌*◌, ◌≤◌, ◌-◌}
+use Prim.Native.Nat.{ℕ}
 use native.Mathlib.Omega.{arith}
 use lib.Dec.{eqb}
 use borrow.Author.Tests.{lt-ltb, le-ltb}
-use Rattle.mask.proofs.LoopsLaws.{Sought, sought_none, sought_more, sought_all}
+use Rattle.mask.proofs.LoopsLaws.{sought_none, sought_more, sought_all}
 use Rattle.table.specs.BodyStarts.{start_at}
 use Rattle.table.proofs.BodyStartsLaws.{start-more}
-use Rattle.book_judge.specs.Read.{start_of, length_of, contents_bad}
+use Rattle.book_judge.specs.Read.{contents_bad}
 use borrow.Author.Rules.{rules}
 use Rattle.book_judge.proofs.contents_bad.Goals as goal
 

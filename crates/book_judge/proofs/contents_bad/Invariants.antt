@@ -1,15 +1,11 @@
 -- `end` is where body i has to start, and `bad` says whether one of the starts passed is elsewhere.
-use mathlib.Core.Path.{◌≡◌, refl, ap₂, ◌∙◌}
+use mathlib.Core.Path.{◌≡◌}
 use mathlib.Core.Bool.{not}
-use Prim.Native.Nat.{ℕ, ◌+◌, ◌*◌, ◌≤◌, ◌-◌}
-use native.Mathlib.Omega.{arith}
+use Prim.Native.Nat.{◌+◌, ◌*◌, ◌≤◌}
 use lib.Dec.{eqb}
-use borrow.Author.Tests.{lt-ltb, le-ltb}
-use Rattle.mask.proofs.LoopsLaws.{Sought, sought_none, sought_more, sought_all}
+use Rattle.mask.proofs.LoopsLaws.{Sought}
 use Rattle.table.specs.BodyStarts.{start_at}
-use Rattle.table.proofs.BodyStartsLaws.{start-more}
-use Rattle.book_judge.specs.Read.{start_of, length_of, contents_bad}
-use borrow.Author.Rules.{rules}
+use Rattle.book_judge.specs.Read.{start_of, length_of}
 use Rattle.book_judge.proofs.contents_bad.Given as goal
 
 abbrev pub invariant-loop-i : goal.invariant-loop-i

@@ -1,5 +1,4 @@
 -- The letters stand after the tests and the assignments that the body counts.
-use borrow.Author.Rules.{rules}
 use Rattle.book_judge.proofs.name_of.Goals as goal
 
 pub returns : goal.returns

@@ -1,6 +1,5 @@
 -- A body lies in the bytes by its own counts, so its number is that of the rule that it holds.
 use Rattle.book_judge.proofs.JudgeLaws.{stretch_lies}
-use borrow.Author.Rules.{rules}
 use Rattle.book_judge.proofs.number_of.Goals as goal
 
 pub number_in-requires : goal.number_in-requires

@@ -1,5 +1,4 @@
 use mathlib.Core.Path.{◌≡◌, refl, ap, ◌∙◌}
-use Prim.Native.Nat.{◌+◌, ◌*◌, ◌≤◌, ◌-◌}
 use native.Mathlib.Omega.{arith}
 use Rattle.table.specs.Memory.{table_from}
 use Rattle.table.proofs.ImageLaws.{rule-from}

@@ -1,13 +1,9 @@
 -- The sum over the rules passed is the start of the next.
-use mathlib.Core.Path.{◌≡◌, refl, ap, ◌∙◌}
-use Prim.Native.Nat.{◌+◌, ◌*◌, ◌≤◌, ◌-◌}
-use native.Mathlib.Omega.{arith}
+use mathlib.Core.Path.{◌≡◌}
+use Prim.Native.Nat.{◌+◌, ◌*◌, ◌≤◌}
 use Rattle.table.specs.Memory.{table_from}
-use Rattle.table.proofs.ImageLaws.{rule-from}
-use Rattle.table.specs.BodyStarts.{body_size, start_at}
-use Rattle.table.proofs.BodyStartsLaws.{start-more}
+use Rattle.table.specs.BodyStarts.{start_at}
 use Rattle.book_parts.specs.BookPartsInner.{sizes_of}
-use borrow.Author.Rules.{rules}
 use Rattle.book_parts.proofs.end_of.Given as goal
 
 abbrev pub invariant-loop-i : goal.invariant-loop-i

@@ -4,7 +4,6 @@ use Prim.Native.Nat.{◌+◌, ◌*◌}
 use native.Mathlib.Omega.{arith}
 use Rattle.little.specs.EachByte.{Bytes}
 use Rattle.book_parts.proofs.BodyWriteLaws.{put-body}
-use borrow.Author.Rules.{rules}
 use Rattle.book_parts.proofs.write_body.Goals as goal
 
 pub returns : goal.returns

@@ -4,7 +4,6 @@ use native.Mathlib.Omega.{arith}
 use Rattle.little.proofs.PutLaws.{put_next}
 use Rattle.little.specs.Bytes.{u16_bytes}
 use Rattle.little.proofs.BytesLaws.{length_u16}
-use borrow.Author.Rules.{rules}
 use Rattle.book_parts.proofs.write_entry.Goals as goal
 
 pub returns : goal.returns

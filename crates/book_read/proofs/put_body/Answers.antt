@@ -1,7 +1,6 @@
 -- The three parts, each with its zeros, one where the other ends, are the slot.
 use mathlib.Core.Path.{◌∙◌}
 use native.Mathlib.Omega.{arith}
-use borrow.Author.Rules.{rules}
 use Rattle.little.specs.EachByte.{Bytes}
 use Rattle.rule_read.specs.RuleReadInner.{Room}
 use Rattle.book_read.proofs.SpreadLaws.{put-slot}

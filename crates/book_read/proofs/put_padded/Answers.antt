@@ -4,7 +4,6 @@ use Prim.Native.Nat.{◌+◌, ◌-◌}
 use native.Mathlib.Omega.{arith}
 use lib.ListN.{length, take, drop, replicate, length-drop}
 use lib.Seq.{length-take-le}
-use borrow.Author.Rules.{rules}
 use Rattle.little.proofs.PutLaws.{put_next}
 use Rattle.book_read.proofs.put_padded.Goals as goal
 

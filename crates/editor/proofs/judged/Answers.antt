@@ -1,6 +1,5 @@
 -- A row with a number is refused by it; the masks of any other are judged.
 use mathlib.Core.Path.{refl, sym, ap, ◌∙◌, subst}
-use borrow.Author.Rules.{rules}
 use Rattle.table.specs.declared.Answer.{Answer}
 use Rattle.analysis_pairs.specs.declared.Masks.{Masks}
 use Rattle.analysis_pairs.specs.AnalysisPairsInner.{masks_in}

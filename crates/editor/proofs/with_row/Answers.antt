@@ -1,5 +1,4 @@
 -- The record stands in its slots where there is room, else the number of records alone changes.
-use borrow.Author.Rules.{rules}
 use borrow.Author.Tests.{lt-ltb, le-ltb}
 use Rattle.editor.specs.EditorInner.{with_row}
 use Rattle.editor.proofs.with_row.Goals as goal

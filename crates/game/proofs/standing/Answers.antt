@@ -1,6 +1,5 @@
 -- What the run with budget 0 says, with the steps put in.
 use mathlib.Core.Path.{ap}
-use borrow.Author.Rules.{rules}
 use Rattle.machine_spec.specs.declared.Ran.{Ran}
 use Rattle.machine_spec.specs.Run.{ran}
 use Rattle.game.proofs.standing.Goals as goal

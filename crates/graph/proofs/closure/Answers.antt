@@ -1,11 +1,9 @@
-use mathlib.Core.Path.{◌≡◌, refl, sym, ap, ◌∙◌, subst}
+use mathlib.Core.Path.{refl, sym, ap, ◌∙◌, subst}
 use mathlib.Core.List.{List}
-use Prim.Native.Nat.{ℕ, ◌≤◌, ◌-◌, ◌+◌}
+use Prim.Native.Nat.{ℕ, ◌+◌}
 use native.Mathlib.Nat.{le_antisymm}
 use native.Mathlib.Numerals.{add-one}
 use native.Mathlib.Omega.{arith}
-use lib.ListN.{length, get_or}
-use Rattle.mask.specs.Mask.{has}
 use Rattle.graph.specs.Graph.{leads}
 use Rattle.graph.specs.GraphInner.{Through}
 use borrow.Author.Rules.{rules}

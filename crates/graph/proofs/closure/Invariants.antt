@@ -1,15 +1,10 @@
 -- After k turns the masks are what each rule leads to through rules below k.
-use mathlib.Core.Path.{◌≡◌, refl, sym, ap, ◌∙◌, subst}
+use mathlib.Core.Path.{◌≡◌}
 use mathlib.Core.List.{List}
-use Prim.Native.Nat.{ℕ, ◌≤◌, ◌-◌, ◌+◌}
-use native.Mathlib.Nat.{le_antisymm}
-use native.Mathlib.Numerals.{add-one}
-use native.Mathlib.Omega.{arith}
+use Prim.Native.Nat.{ℕ, ◌≤◌}
 use lib.ListN.{length, get_or}
 use Rattle.mask.specs.Mask.{has}
 use Rattle.graph.specs.Graph.{leads}
-use Rattle.graph.specs.GraphInner.{Through}
-use borrow.Author.Rules.{rules}
 use Rattle.graph.proofs.closure.Given as goal
 
 -- q has what each rule leads to in p through rules below k

@@ -1,11 +1,10 @@
-use mathlib.Core.Path.{◌≡◌, sym, ap, ◌∙◌}
-use mathlib.Core.Logic.{⊎_elim}
-use Prim.Native.Nat.{ℕ, ◌≤◌, ◌-◌}
+use mathlib.Core.Path.{sym, ap, ◌∙◌}
+use Prim.Native.Nat.{ℕ}
 use native.Mathlib.Omega.{arith}
-use lib.ListN.{length, get_or, get_or-eq_default}
+use lib.ListN.{get_or-eq_default}
 use Rattle.mask.specs.Mask.{has}
 use Rattle.mask.proofs.BitsLaws.{has-zero}
-use Rattle.mask.proofs.LoopsLaws.{Picked, picked_none, picked_take, picked_skip, picked_every}
+use Rattle.mask.proofs.LoopsLaws.{picked_none, picked_take, picked_skip, picked_every}
 use borrow.Author.Rules.{rules}
 use Rattle.graph.proofs.loops.Goals as goal
 use Rattle.graph.proofs.loops.Goals.{else-has, then-has}

@@ -1,19 +1,12 @@
 -- The masks passed have got k's mask where they have k, and the others are as they were. k's own mask does not change on the way:
 -- joined with itself it is the same.
-use mathlib.Core.Path.{◌≡◌, refl, sym, ap, ◌∙◌}
-use mathlib.Core.Logic.{⊎_elim}
-use mathlib.Core.Bool.{Bool, true, false, cond, ◌&&◌, ◌||◌, or-false}
+use mathlib.Core.Path.{◌≡◌}
+use mathlib.Core.Bool.{◌&&◌, ◌||◌}
 use mathlib.Core.List.{List}
-use Prim.Native.Nat.{ℕ, ◌≤◌, ◌-◌}
-use native.Mathlib.Nat.{le_refl}
-use native.Mathlib.Omega.{arith}
-use lib.Bits.{bit_or}
+use Prim.Native.Nat.{ℕ, ◌≤◌}
 use lib.ListN.{length, get_or}
 use Rattle.mask.specs.Mask.{has}
-use Rattle.mask.proofs.BitsLaws.{has-or, has-zero}
 use Rattle.mask.specs.MaskInner.{Upto}
-use Rattle.mask.proofs.LoopsLaws.{upto-none, upto-store, upto_all}
-use borrow.Author.Rules.{rules}
 use Rattle.graph.proofs.through.Given as goal
 
 -- the row that x gets

@@ -1,5 +1,4 @@
 -- What the call of `gwaunidor_report` ensures.
-use borrow.Author.Rules.{rules}
 use Rattle.gwaunidor.proofs.gwaunidor_lines.Goals as goal
 
 pub returns : goal.returns

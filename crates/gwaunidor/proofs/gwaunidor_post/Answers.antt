@@ -6,7 +6,6 @@ use Rattle.table.specs.Memory.{table_from}
 use Rattle.machine_spec.specs.Step.{post_of}
 use Rattle.layout_state.specs.States.{state_from}
 use Rattle.gwaunidor_run.specs.RunOut.{state_out}
-use borrow.Author.Rules.{rules}
 use Rattle.gwaunidor.proofs.gwaunidor_post.Goals as goal
 
 pub returns : goal.returns

@@ -1,5 +1,4 @@
 -- What the call of `gwaunidor_book` ensures.
-use borrow.Author.Rules.{rules}
 use Rattle.gwaunidor.proofs.gwaunidor_write.Goals as goal
 
 pub returns : goal.returns

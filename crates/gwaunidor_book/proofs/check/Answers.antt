@@ -2,7 +2,6 @@
 use mathlib.Core.Path.{ap, ◌∙◌}
 use Rattle.table.specs.declared.Answer.{Answer}
 use Rattle.layout_code.specs.Code.{code_of}
-use borrow.Author.Rules.{rules}
 use Rattle.gwaunidor_book.proofs.check.Goals as goal
 
 pub returns : goal.returns

@@ -1,6 +1,5 @@
 -- The answer and the table's bytes are what the reader ensures.
 use mathlib.Core.Path.{ap, ◌∙◌}
-use borrow.Author.Rules.{rules}
 use Rattle.table.specs.declared.Answer.{Answer}
 use Rattle.layout_code.specs.Code.{code_of}
 use Rattle.gwaunidor_book.proofs.read.Goals as goal

@@ -6,7 +6,6 @@ use Rattle.table.specs.Memory.{table_from}
 use Rattle.book_write.specs.declared.Written.{Written}
 use Rattle.book_write.proofs.WriteLaws.{size-largest}
 use Rattle.gwaunidor_book.specs.BookOut.{size_out}
-use borrow.Author.Rules.{rules}
 use Rattle.gwaunidor_book.proofs.size.Goals as goal
 
 pub overflow_cast-size : goal.overflow_cast-size

@@ -1,7 +1,6 @@
 -- The step bound is what the analysis ensures.
 use mathlib.Core.Path.{ap}
 use Prim.Native.Nat.{ℕ}
-use borrow.Author.Rules.{rules}
 use Rattle.gwaunidor_report.proofs.bound.Goals as goal
 
 pub returns : goal.returns

@@ -3,7 +3,6 @@ use mathlib.Core.Path.{ap}
 use Prim.Native.Nat.{ℕ}
 use native.Mathlib.Omega.{arith}
 use Rattle.report_lines.proofs.LinesLaws.{length-within}
-use borrow.Author.Rules.{rules}
 use Rattle.gwaunidor_report.proofs.lines.Goals as goal
 
 pub overflow_cast-written : goal.overflow_cast-written

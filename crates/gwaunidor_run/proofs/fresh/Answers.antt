@@ -3,7 +3,6 @@ use mathlib.Core.Path.{ap, ◌∙◌}
 use Rattle.table.specs.Memory.{table_from}
 use Rattle.machine_spec.specs.Step.{fresh_of}
 use Rattle.gwaunidor_run.specs.RunOut.{state_out}
-use borrow.Author.Rules.{rules}
 use Rattle.gwaunidor_run.proofs.fresh.Goals as goal
 
 pub returns : goal.returns

@@ -6,7 +6,6 @@ use Rattle.table.specs.Memory.{table_from}
 use Rattle.machine_spec.specs.declared.State.{State}
 use Rattle.machine_spec.specs.Step.{post_of}
 use Rattle.gwaunidor_run.specs.RunOut.{state_out}
-use borrow.Author.Rules.{rules}
 use Rattle.gwaunidor_run.proofs.post.Goals as goal
 
 pub returns : goal.returns

@@ -6,7 +6,6 @@ use Rattle.table.specs.Memory.{table_from}
 use Rattle.machine_spec.specs.declared.State.{State}
 use Rattle.machine_spec.specs.Run.{run_of}
 use Rattle.gwaunidor_run.specs.RunOut.{ran_out}
-use borrow.Author.Rules.{rules}
 use Rattle.gwaunidor_run.proofs.run.Goals as goal
 
 pub returns : goal.returns

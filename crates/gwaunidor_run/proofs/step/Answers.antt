@@ -4,7 +4,6 @@ use Rattle.table.specs.Memory.{table_from}
 use Rattle.machine_spec.specs.declared.State.{State}
 use Rattle.machine_spec.specs.Step.{step_of}
 use Rattle.gwaunidor_run.specs.RunOut.{state_out}
-use borrow.Author.Rules.{rules}
 use Rattle.gwaunidor_run.proofs.step.Goals as goal
 
 pub returns : goal.returns

@@ -4,7 +4,6 @@ use mathlib.Core.Bool.{cond}
 use mathlib.Core.List.{[], ◌∷◌, ◌++◌}
 use native.Mathlib.Omega.{arith}
 use lib.ListN.{length, length-append}
-use borrow.Author.Rules.{rules}
 use Rattle.little.specs.Put.{put}
 use Rattle.little.proofs.PutLaws.{put_next}
 use Rattle.little.specs.Bytes.{u16_bytes, u32_bytes}

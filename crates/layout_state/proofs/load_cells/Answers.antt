@@ -1,10 +1,9 @@
 use mathlib.Core.Path.{◌≡◌, refl}
-use Prim.Native.Nat.{◌<◌, ◌≤◌, ◌-◌}
+use Prim.Native.Nat.{◌<◌}
 use native.Mathlib.Omega.{arith}
 use lib.IntN.{pos}
 use mir.Facts.{to_z-of_z}
 use borrow.Author.Rules.{rules, sfits_of}
-use Rattle.rule.specs.Fill.{filled}
 use Rattle.rule.proofs.FillLaws.{filled_more}
 use Rattle.layout_state.specs.States.{cells_from}
 use Rattle.layout_state.proofs.StatesLaws.{cell_in}

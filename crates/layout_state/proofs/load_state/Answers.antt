@@ -1,5 +1,4 @@
 -- The cells and the two masks, each as its callee ensures it.
-use borrow.Author.Rules.{rules}
 use Rattle.layout_state.specs.States.{state_from}
 use Rattle.layout_state.proofs.load_state.Goals as goal
 

@@ -1,8 +1,7 @@
 use mathlib.Core.Path.{◌≡◌, sym, ap, ◌∙◌}
-use Prim.Native.Nat.{ℕ, ◌*◌, ◌≤◌, ◌-◌}
+use Prim.Native.Nat.{ℕ, ◌*◌}
 use native.Mathlib.Omega.{arith}
 use lib.IntN.{ℤ}
-use lib.ListN.{length}
 use mir.Facts.{to_z-of_z}
 use borrow.Author.Rules.{rules, sfits_of}
 use Rattle.little.specs.Put.{put}

@@ -1,9 +1,7 @@
-use mathlib.Core.Path.{◌≡◌, refl}
-use Prim.Native.Nat.{◌-◌, ◌≤◌}
+use mathlib.Core.Path.{refl}
 use native.Mathlib.Omega.{arith}
-use lib.ListN.{length}
 use borrow.Author.Rules.{rules}
-use Rattle.little.proofs.PutLaws.{Written, written_none, written-more, written_all}
+use Rattle.little.proofs.PutLaws.{written_none, written-more, written_all}
 use Rattle.little.proofs.put_bytes.Goals as goal
 
 pub loop-j-init : goal.loop-j-init

@@ -1,10 +1,8 @@
 -- The first j bytes are written: one more where they end is the first j + 1.
-use mathlib.Core.Path.{◌≡◌, refl}
-use Prim.Native.Nat.{◌-◌, ◌≤◌}
-use native.Mathlib.Omega.{arith}
+use mathlib.Core.Path.{◌≡◌}
+use Prim.Native.Nat.{◌≤◌}
 use lib.ListN.{length}
-use borrow.Author.Rules.{rules}
-use Rattle.little.proofs.PutLaws.{Written, written_none, written-more, written_all}
+use Rattle.little.proofs.PutLaws.{Written}
 use Rattle.little.proofs.put_bytes.Given as goal
 
 abbrev pub invariant-loop-j : goal.invariant-loop-j

@@ -2,7 +2,6 @@
 use mathlib.Core.Path.{ap, ◌∙◌}
 use Prim.Native.Nat.{ℕ}
 use mir.Facts.{to_z-of_z}
-use borrow.Author.Rules.{rules}
 use Rattle.little.specs.Put.{put}
 use Rattle.little.specs.Bytes.{unsigned, u64_bytes, i64_bytes}
 use Rattle.little.proofs.put_i64.Goals as goal

@@ -4,7 +4,6 @@ use Prim.Native.Nat.{ℕ, ◌+◌, ◌-◌}
 use native.Mathlib.Omega.{arith}
 use lib.ListN.{take, drop}
 use Rattle.little.specs.Put.{put}
-use borrow.Author.Rules.{rules}
 use Rattle.little.proofs.put_part.Goals as goal
 
 pub returns : goal.returns

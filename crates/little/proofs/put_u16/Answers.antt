@@ -3,7 +3,6 @@ use mathlib.Core.List.{[], ◌∷◌}
 use Prim.Native.Nat.{◌/◌, ◌%◌, ◌+◌}
 use native.Mathlib.Omega.{arith}
 use lib.ListN.{length-set}
-use borrow.Author.Rules.{rules}
 use Rattle.little.proofs.PutLaws.{put-set, put-store}
 use Rattle.little.specs.Bytes.{u16_bytes}
 use Rattle.little.proofs.put_u16.Goals as goal

@@ -1,7 +1,6 @@
 -- The low half, and the high half after it.
 use Prim.Native.Nat.{◌/◌, ◌%◌}
 use native.Mathlib.Omega.{arith}
-use borrow.Author.Rules.{rules}
 use Rattle.little.specs.Bytes.{u16_bytes, u32_bytes}
 use Rattle.little.proofs.BytesLaws.{length_u16, put_halves}
 use Rattle.little.proofs.put_u32.Goals as goal

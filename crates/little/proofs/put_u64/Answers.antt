@@ -1,7 +1,6 @@
 -- The low half, and the high half after it.
 use Prim.Native.Nat.{◌/◌, ◌%◌}
 use native.Mathlib.Omega.{arith}
-use borrow.Author.Rules.{rules}
 use Rattle.little.specs.Bytes.{u32_bytes, u64_bytes}
 use Rattle.little.proofs.BytesLaws.{length_u32, put_halves}
 use Rattle.little.proofs.put_u64.Goals as goal

@@ -1,9 +1,9 @@
 use mathlib.Core.Path.{sym}
-use Prim.Native.Nat.{ℕ, ◌-◌, ◌≤◌}
+use Prim.Native.Nat.{ℕ}
 use native.Mathlib.Omega.{arith}
-use lib.ListN.{replicate, length-replicate, get_or-replicate}
+use lib.ListN.{length-replicate, get_or-replicate}
 use borrow.Author.Rules.{rules}
-use Rattle.little.proofs.PutLaws.{Written, written_none, written-more, written_all}
+use Rattle.little.proofs.PutLaws.{written_none, written-more, written_all}
 use Rattle.little.proofs.put_zeros.Goals as goal
 
 pub loop-j-preserved : goal.loop-j-preserved

@@ -5,7 +5,6 @@ use mathlib.Core.List.{List, [], ◌∷◌}
 use Prim.Native.Nat.{ℕ}
 use native.Mathlib.Omega.{arith}
 use lib.IntN.{ℤ}
-use borrow.Author.Rules.{rules}
 use Rattle.mask.specs.First.{first_of}
 use Rattle.table.specs.Table.{Table}
 use Rattle.table.specs.Check.{Sound}

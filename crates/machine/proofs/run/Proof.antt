@@ -9,7 +9,6 @@ use Rattle.table.specs.Memory.{table_from}
 use Rattle.machine_spec.specs.declared.State.{State}
 use Rattle.machine_spec.specs.State.{Fits, state_bad}
 use Rattle.machine_spec.proofs.StepLaws.{checked-sound}
-use Rattle.machine_spec.specs.Run.{ran}
 use Rattle.machine_spec.proofs.RunLaws.{run-table, run_11, run_is}
 use Rattle.machine_step.proofs.TurnLaws.{bad-by, few-at}
 use Rattle.machine.proofs.run.Statement.{statement}

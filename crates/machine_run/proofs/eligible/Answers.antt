@@ -1,7 +1,6 @@
 -- What is left of the waiting rules without those that a waiting rule goes before.
 use mathlib.Core.Path.{ap, ◌∙◌}
 use mathlib.Core.Bool.{Bool, ◌&&◌, not}
-use borrow.Author.Rules.{rules}
 use Rattle.mask.specs.Mask.{has}
 use Rattle.mask.proofs.MaskLaws.{has_minus}
 use Rattle.machine_run.proofs.eligible.Goals as goal

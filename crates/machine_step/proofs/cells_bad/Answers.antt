@@ -1,4 +1,3 @@
-use Prim.Native.Nat.{◌≤◌, ◌-◌}
 use mathlib.Core.Bool.{Bool, not, ◌&&◌, ◌||◌}
 use mathlib.Core.Path.{ap₂, ap, ◌∙◌}
 use lib.Dec.{ltb}
@@ -8,10 +7,9 @@ use mir.Val.{SFits}
 use mir.Facts.{to_z-of_z}
 use borrow.Author.Rules.{rules, sfits_of}
 use Rattle.mask.proofs.SearchLaws.{branch-free}
-use Rattle.mask.proofs.LoopsLaws.{Sought, sought_none, sought_more, sought_all}
+use Rattle.mask.proofs.LoopsLaws.{sought_none, sought_more, sought_all}
 use Rattle.rule.specs.Numbers.{not_zero_z, out_of_range}
 use Rattle.rule_sums.specs.Sums.{at}
-use Rattle.machine_spec.specs.State.{cell_bad}
 use Rattle.machine_step.proofs.cells_bad.Goals as goal
 
 pub loop-c-init : goal.loop-c-init

@@ -1,5 +1,4 @@
 -- The three tests, one after another.
-use borrow.Author.Rules.{rules}
 use Rattle.machine_step.proofs.state_bad.Goals as goal
 
 pub returns : goal.returns

@@ -1,7 +1,6 @@
 -- Each return is the case of `effect_by` whose test held.
 use mathlib.Core.Path.{sym, ◌∙◌}
 use native.Mathlib.Omega.{arith}
-use borrow.Author.Rules.{rules}
 use Rattle.table.specs.TableInner.{rule_from}
 use Rattle.machine_step.specs.MachineStepInner.{state_of}
 use Rattle.machine_step.proofs.TurnLaws.{turn_false, turn-out, turn-stored}

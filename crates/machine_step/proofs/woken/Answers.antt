@@ -3,7 +3,6 @@ use mathlib.Core.Path.{ap, ◌∙◌}
 use mathlib.Core.Bool.{Bool, ◌||◌}
 use native.Mathlib.Omega.{arith}
 use lib.ListN.{get_or}
-use borrow.Author.Rules.{rules}
 use Rattle.mask.specs.Mask.{has, meet}
 use Rattle.mask.proofs.LoopsLaws.{mask_of-unique}
 use Rattle.machine_step.proofs.woken.Goals as goal

@@ -6,7 +6,6 @@ use lib.Pow.{pow_pos, pow_mono}
 use Rattle.mask.specs.Mask.{has}
 use Rattle.mask.proofs.BitsLaws.{has-ones}
 use Rattle.mask.proofs.MaskLaws.{wide-shl}
-use borrow.Author.Rules.{rules}
 use Rattle.mask.proofs.below.Goals as goal
 
 pub overflow_sub-result : goal.overflow_sub-result

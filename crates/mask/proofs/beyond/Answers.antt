@@ -3,7 +3,6 @@ use mathlib.Core.Path.{ap, ◌∙◌}
 use Prim.Native.Nat.{ℕ}
 use lib.Dec.{leb}
 use Rattle.mask.proofs.MaskLaws.{wide-shl, beyond_law}
-use borrow.Author.Rules.{rules}
 use Rattle.mask.proofs.beyond.Goals as goal
 
 pub returns : goal.returns

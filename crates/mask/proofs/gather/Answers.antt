@@ -1,9 +1,8 @@
 use mathlib.Core.Path.{◌≡◌, subst}
 use mathlib.Core.Bool.{true}
-use Prim.Native.Nat.{ℕ, ◌<◌, ◌^◌}
+use Prim.Native.Nat.{ℕ, ◌<◌}
 use native.Mathlib.Omega.{arith}
 use Rattle.mask.specs.Mask.{has}
-use Rattle.mask.specs.MaskInner.{lowest}
 use Rattle.mask.proofs.MaskLaws.{lowest-has, fewer}
 use Rattle.mask.proofs.LoopsLaws.{Gathering, gathering_start, gathering_turn, gathering_end}
 use borrow.Author.Rules.{rules}

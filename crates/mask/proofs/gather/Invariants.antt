@@ -1,14 +1,7 @@
 -- The loop takes the lowest member off `left` and joins its row to a: the rows that m names are always those in a and those that
 -- `left` names. The measure is `left` itself, a smaller number with each member fewer.
-use mathlib.Core.Path.{◌≡◌, subst}
-use mathlib.Core.Bool.{true}
-use Prim.Native.Nat.{ℕ, ◌<◌, ◌^◌}
-use native.Mathlib.Omega.{arith}
-use Rattle.mask.specs.Mask.{has}
-use Rattle.mask.specs.MaskInner.{lowest}
-use Rattle.mask.proofs.MaskLaws.{lowest-has, fewer}
-use Rattle.mask.proofs.LoopsLaws.{Gathering, gathering_start, gathering_turn, gathering_end}
-use borrow.Author.Rules.{rules}
+use Prim.Native.Nat.{◌<◌, ◌^◌}
+use Rattle.mask.proofs.LoopsLaws.{Gathering}
 use Rattle.mask.proofs.gather.Given as goal
 
 abbrev pub invariant-loop-left : goal.invariant-loop-left

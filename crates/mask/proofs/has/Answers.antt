@@ -4,7 +4,6 @@ use Prim.Native.Nat.{ℕ, ◌/◌, ◌^◌}
 use lib.Dec.{eqb}
 use lib.Bits.{and_mask}
 use Rattle.mask.specs.Mask.{has}
-use borrow.Author.Rules.{rules}
 use Rattle.mask.proofs.has.Goals as goal
 
 pub returns : goal.returns

@@ -1,10 +1,6 @@
 use mathlib.Core.Path.{sym, ◌∙◌}
-use mathlib.Core.Logic.{⊎_elim}
-use Prim.Native.Nat.{◌≤◌, ◌-◌}
 use native.Mathlib.Omega.{arith}
-use lib.ListN.{get_or}
-use Rattle.mask.specs.Mask.{meet}
-use Rattle.mask.proofs.LoopsLaws.{Picked, picked_none, picked_skip, picked_take, picked_all}
+use Rattle.mask.proofs.LoopsLaws.{picked_none, picked_skip, picked_take, picked_all}
 use borrow.Author.Rules.{rules}
 use Rattle.mask.proofs.touching.Goals as goal
 use Rattle.mask.proofs.touching.Goals.{else-meets, then-meets}

@@ -1,6 +1,5 @@
 -- One bit more.
 use Rattle.mask.proofs.MaskLaws.{has-with}
-use borrow.Author.Rules.{rules}
 use Rattle.mask.proofs.with.Goals as goal
 
 pub returns : goal.returns

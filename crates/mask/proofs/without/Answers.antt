@@ -1,6 +1,5 @@
 -- The bit put in, so that taking it out again cannot add it.
 use Rattle.mask.proofs.MaskLaws.{has-without}
-use borrow.Author.Rules.{rules}
 use Rattle.mask.proofs.without.Goals as goal
 
 pub returns : goal.returns

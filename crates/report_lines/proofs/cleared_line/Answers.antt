@@ -4,7 +4,6 @@ use native.Mathlib.Omega.{arith}
 use Rattle.report_text.specs.Text.{spaced, line}
 use Rattle.report_lines.specs.FourLines.{cleared_line}
 use Rattle.report_text.proofs.AddedLaws.{added_as}
-use borrow.Author.Rules.{rules}
 use Rattle.report_lines.proofs.cleared_line.Goals as goal
 
 pub returns-then-cleared : goal.returns-then-cleared

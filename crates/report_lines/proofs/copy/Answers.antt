@@ -1,13 +1,12 @@
 -- Too short, the buffer is as it was; else the text stands at its start.
-use mathlib.Core.Path.{◌≡◌, refl, sym, ap}
+use mathlib.Core.Path.{refl, sym, ap}
 use mathlib.Core.List.{List}
 use Prim.Native.Nat.{ℕ}
 use native.Mathlib.Omega.{arith}
-use lib.ListN.{length, take}
+use lib.ListN.{length}
 use lib.Seq.{length-take-le}
 use borrow.Author.Tests.{lt-ltb, le-ltb}
 use Rattle.report_lines.specs.declared.Printed.{Printed}
-use borrow.Author.Rules.{rules}
 use Rattle.report_lines.proofs.copy.Goals as goal
 use Rattle.report_lines.proofs.copy.Goals.{Start}
 

@@ -4,7 +4,6 @@ use native.Mathlib.Omega.{arith}
 use borrow.Author.Tests.{eq-eqb, ne_eqb}
 use Rattle.report_lines.specs.FourLines.{ends_line}
 use Rattle.report_text.proofs.AddedLaws.{added_as, added_line}
-use borrow.Author.Rules.{rules}
 use Rattle.report_lines.proofs.ends_line.Goals as goal
 
 pub returns-then-faulty-eq0 : goal.returns-then-faulty-eq0

@@ -1,10 +1,7 @@
 -- The lines one after another.
-use Prim.Native.Nat.{◌+◌, ◌*◌, ◌≤◌}
 use native.Mathlib.Omega.{arith}
-use lib.ListN.{length}
 use Rattle.analysis_masks.specs.AnalysisMasksInner.{report_in}
 use Rattle.book_judge.specs.Read.{table_in}
-use Rattle.book_judge.specs.BookJudgeInner.{n_of}
 use Rattle.report_lines.specs.FourLines.{four_lines, pairs_line}
 use Rattle.report_text.proofs.AddedLaws.{added_on, added_first}
 use Rattle.report_masks.proofs.BodyMasksLaws.{in_book}

@@ -2,7 +2,6 @@
 use mathlib.Core.Path.{refl}
 use native.Mathlib.Omega.{arith}
 use Rattle.report_text.proofs.AddedLaws.{added_as, added_line}
-use borrow.Author.Rules.{rules}
 use Rattle.report_lines.proofs.numbered.Goals as goal
 
 pub returns : goal.returns

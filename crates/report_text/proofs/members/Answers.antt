@@ -1,8 +1,7 @@
 use mathlib.Core.Path.{◌≡◌, refl, sym, ap, ◌∙◌}
 use mathlib.Core.Bool.{Bool, true, false, cond}
 use mathlib.Core.List.{List, [], ◌∷◌, ◌++◌}
-use mathlib.Core.Logic.{⊎_elim}
-use Prim.Native.Nat.{ℕ, ◌+◌, ◌-◌, ◌*◌, ◌≤◌}
+use Prim.Native.Nat.{ℕ, ◌+◌, ◌*◌}
 use native.Mathlib.Omega.{arith}
 use Rattle.mask.specs.Mask.{has}
 use Rattle.little.specs.Joined.{joined}
@@ -10,7 +9,6 @@ use Rattle.little.proofs.JoinedLaws.{joined-more}
 use Rattle.report_text.specs.Text.{spaced, members}
 use Rattle.report_text.specs.ReportTextInner.{Added}
 use Rattle.report_text.proofs.AddedLaws.{added_none, added_as, added_numbers}
-use borrow.Author.Rules.{rules}
 use Rattle.report_text.proofs.members.Goals as goal
 use Rattle.report_text.proofs.members.Goals.{else-has, then-has}
 use Rattle.report_text.proofs.members.Invariants.{below}

@@ -1,17 +1,11 @@
 -- The members below i have been added; each takes at most 11 bytes.
-use mathlib.Core.Path.{◌≡◌, refl, sym, ap, ◌∙◌}
-use mathlib.Core.Bool.{Bool, true, false, cond}
-use mathlib.Core.List.{List, [], ◌∷◌, ◌++◌}
-use mathlib.Core.Logic.{⊎_elim}
-use Prim.Native.Nat.{ℕ, ◌+◌, ◌-◌, ◌*◌, ◌≤◌}
-use native.Mathlib.Omega.{arith}
+use mathlib.Core.Bool.{cond}
+use mathlib.Core.List.{List, [], ◌∷◌}
+use Prim.Native.Nat.{ℕ, ◌+◌, ◌*◌, ◌≤◌}
 use Rattle.mask.specs.Mask.{has}
 use Rattle.little.specs.Joined.{joined}
-use Rattle.little.proofs.JoinedLaws.{joined-more}
-use Rattle.report_text.specs.Text.{spaced, members}
+use Rattle.report_text.specs.Text.{spaced}
 use Rattle.report_text.specs.ReportTextInner.{Added}
-use Rattle.report_text.proofs.AddedLaws.{added_none, added_as, added_numbers}
-use borrow.Author.Rules.{rules}
 use Rattle.report_text.proofs.members.Given as goal
 
 -- the members below i

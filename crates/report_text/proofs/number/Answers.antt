@@ -1,6 +1,5 @@
 -- The space, then the digits.
 use Rattle.report_text.proofs.AddedLaws.{added_number}
-use borrow.Author.Rules.{rules}
 use Rattle.report_text.proofs.number.Goals as goal
 
 pub returns : goal.returns

@@ -1,7 +1,6 @@
 -- One number after another.
 use native.Mathlib.Omega.{arith}
 use Rattle.report_text.proofs.AddedLaws.{added_numbers, added_as}
-use borrow.Author.Rules.{rules}
 use Rattle.report_text.proofs.two_numbers.Goals as goal
 
 pub returns : goal.returns

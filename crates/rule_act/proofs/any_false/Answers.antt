@@ -1,10 +1,10 @@
 use mathlib.Core.Path.{◌≡◌, sym, ap, ◌∙◌}
 use mathlib.Core.Bool.{not}
-use Prim.Native.Nat.{◌+◌, ◌≤◌, ◌<◌, ◌-◌}
+use Prim.Native.Nat.{◌+◌, ◌<◌}
 use native.Mathlib.Omega.{arith}
 use borrow.Author.Rules.{rules}
 use Rattle.mask.proofs.SearchLaws.{some_intro, some-none}
-use Rattle.mask.proofs.LoopsLaws.{Passed, passed_none, passed-more}
+use Rattle.mask.proofs.LoopsLaws.{passed_none, passed-more}
 use Rattle.rule.specs.declared.Test.{Test}
 use Rattle.rule.specs.Uses.{test_at}
 use Rattle.little.specs.Little.{byte_at}

@@ -1,18 +1,12 @@
 -- None of the tests passed is false.
-use mathlib.Core.Path.{◌≡◌, sym, ap, ◌∙◌}
+use mathlib.Core.Path.{◌≡◌}
 use mathlib.Core.Bool.{not}
-use Prim.Native.Nat.{◌+◌, ◌≤◌, ◌<◌, ◌-◌}
-use native.Mathlib.Omega.{arith}
-use borrow.Author.Rules.{rules}
-use Rattle.mask.proofs.SearchLaws.{some_intro, some-none}
-use Rattle.mask.proofs.LoopsLaws.{Passed, passed_none, passed-more}
-use Rattle.rule.specs.declared.Test.{Test}
+use Prim.Native.Nat.{◌+◌, ◌≤◌}
+use Rattle.mask.proofs.LoopsLaws.{Passed}
 use Rattle.rule.specs.Uses.{test_at}
 use Rattle.little.specs.Little.{byte_at}
 use Rattle.rule_sums.specs.Sums.{holds}
-use Rattle.rule_act.specs.Amounts.{any_false}
 use Rattle.rule_act.specs.RuleActInner.{slot_rule}
-use Rattle.rule_act.proofs.ActSlotLaws.{test_in_lem}
 use Rattle.rule_act.proofs.any_false.Given as goal
 
 abbrev pub invariant-loop-j : goal.invariant-loop-j

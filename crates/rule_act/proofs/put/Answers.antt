@@ -4,7 +4,7 @@ use mathlib.Core.Bool.{Bool, true, false, ◌||◌, and-true, and-false, or-fals
 use lib.Dec.{eqb}
 use lib.ListN.{set}
 use mir.Facts.{to_z-of_z}
-use borrow.Author.Rules.{rules, sfits_of}
+use borrow.Author.Rules.{sfits_of}
 use Rattle.mask.specs.Mask.{has}
 use Rattle.rule_sums.specs.Sums.{at, differs}
 use mir.Syntax.{w64}

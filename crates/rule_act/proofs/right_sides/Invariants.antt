@@ -1,20 +1,13 @@
 -- The right sides passed are in the row, and one of them is out of range exactly when `found`.
-use mathlib.Core.Path.{◌≡◌, sym, ap, ◌∙◌, subst}
-use Prim.Native.Nat.{ℕ, ◌+◌, ◌≤◌, ◌<◌, ◌-◌}
-use native.Mathlib.Omega.{arith}
+use mathlib.Core.Path.{◌≡◌}
+use Prim.Native.Nat.{◌+◌, ◌≤◌}
 use lib.ListN.{length}
-use mir.Facts.{to_z-of_z}
-use borrow.Author.Rules.{rules, sfits_of}
-use Rattle.mask.proofs.LoopsLaws.{Sought, sought_none, sought_more, sought_all}
-use Rattle.rule.specs.declared.Assign.{Assign}
+use Rattle.mask.proofs.LoopsLaws.{Sought}
 use Rattle.rule.specs.Numbers.{out_of_range}
 use Rattle.rule.specs.Uses.{assign_at}
 use Rattle.little.specs.Little.{byte_at}
 use Rattle.rule_sums.specs.Sums.{value_of}
-use Rattle.rule_act.specs.Amounts.{any_out}
-use Rattle.rule_sums.specs.RuleSumsInner.{InBounds}
 use Rattle.rule_act.specs.RuleActInner.{slot_rule, SidesSoFar}
-use Rattle.rule_act.proofs.ActSlotLaws.{assign_in_lem, sides-none, sides-more}
 use Rattle.rule_act.proofs.right_sides.Given as goal
 
 abbrev pub invariant-loop-j : goal.invariant-loop-j

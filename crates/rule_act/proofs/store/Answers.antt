@@ -1,5 +1,5 @@
 use mathlib.Core.Path.{◌≡◌, ap, ◌∙◌, subst, subst₂}
-use Prim.Native.Nat.{ℕ, ◌+◌, ◌≤◌, ◌<◌, ◌-◌}
+use Prim.Native.Nat.{ℕ, ◌+◌, ◌<◌}
 use native.Mathlib.Omega.{arith}
 use lib.IntN.{ℤ}
 use mir.Facts.{to_z-of_z}

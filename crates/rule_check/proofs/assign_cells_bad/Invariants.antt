@@ -1,10 +1,8 @@
 -- Of the assignments passed, one has a bad cell exactly when `bad`.
-use mathlib.Core.Path.{refl}
-use Prim.Native.Nat.{◌+◌, ◌*◌, ◌≤◌, ◌-◌}
-use Rattle.mask.proofs.LoopsLaws.{Sought, sought_none, sought_more, sought_all}
+use Prim.Native.Nat.{◌+◌, ◌*◌, ◌≤◌}
+use Rattle.mask.proofs.LoopsLaws.{Sought}
 use Rattle.rule.specs.Numbers.{assign_cell_bad}
 use Rattle.rule_read.specs.Parts.{assign_in}
-use borrow.Author.Rules.{rules}
 use Rattle.rule_check.proofs.assign_cells_bad.Given as goal
 
 abbrev pub invariant-loop-j : goal.invariant-loop-j

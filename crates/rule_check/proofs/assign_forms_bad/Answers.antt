@@ -1,11 +1,10 @@
-use Prim.Native.Nat.{◌≤◌, ◌+◌, ◌-◌, ◌*◌}
+use Prim.Native.Nat.{◌+◌, ◌*◌}
 use lib.Dec.{ltb}
 use Rattle.mask.proofs.SearchLaws.{branch-free}
-use Rattle.mask.proofs.LoopsLaws.{Sought, sought_none, sought_more, sought_all}
+use Rattle.mask.proofs.LoopsLaws.{sought_none, sought_more, sought_all}
 use Rattle.rule.specs.declared.Assign.{Assign}
 use Rattle.rule.specs.Numbers.{assign_form_bad, assign_slot_bad}
 use Rattle.rule_read.specs.Parts.{assign_in}
-use Rattle.rule_check.specs.RuleCheckInner.{assign_bad}
 use borrow.Author.Rules.{rules}
 use Rattle.rule_check.proofs.assign_forms_bad.Goals as goal
 

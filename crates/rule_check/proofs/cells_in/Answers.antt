@@ -1,5 +1,4 @@
 -- The masks and the cells, as many as the count bytes say.
-use borrow.Author.Rules.{rules}
 use Rattle.rule_check.proofs.cells_in.Goals as goal
 
 pub returns : goal.returns

@@ -1,6 +1,5 @@
 -- The four count bytes are those of the rule that is read there.
 use mathlib.Core.Path.{refl}
-use borrow.Author.Rules.{rules}
 use Rattle.rule.specs.Numbers.{counts_bad}
 use Rattle.rule_check.proofs.counts_bad.Goals as goal
 

@@ -1,5 +1,4 @@
 -- The forms and the slots, as many as the count bytes say.
-use borrow.Author.Rules.{rules}
 use Rattle.rule_check.proofs.forms_in.Goals as goal
 
 pub returns : goal.returns

@@ -1,7 +1,4 @@
-use Prim.Native.Nat.{◌+◌, ◌≤◌, ◌-◌}
-use Rattle.mask.proofs.LoopsLaws.{Sought, sought_none, sought_more, sought_all}
-use Rattle.little.specs.Little.{byte_at}
-use Rattle.rule.specs.Numbers.{letter_bad}
+use Rattle.mask.proofs.LoopsLaws.{sought_none, sought_more, sought_all}
 use borrow.Author.Rules.{rules}
 use Rattle.rule_check.proofs.letters_bad.Goals as goal
 

@@ -1,9 +1,8 @@
 -- Of the letters passed, one is bad exactly when `bad`.
-use Prim.Native.Nat.{◌+◌, ◌≤◌, ◌-◌}
-use Rattle.mask.proofs.LoopsLaws.{Sought, sought_none, sought_more, sought_all}
+use Prim.Native.Nat.{◌+◌, ◌≤◌}
+use Rattle.mask.proofs.LoopsLaws.{Sought}
 use Rattle.little.specs.Little.{byte_at}
 use Rattle.rule.specs.Numbers.{letter_bad}
-use borrow.Author.Rules.{rules}
 use Rattle.rule_check.proofs.letters_bad.Given as goal
 
 abbrev pub invariant-loop-j : goal.invariant-loop-j

@@ -1,5 +1,4 @@
 -- The letters, as many as the count byte says.
-use borrow.Author.Rules.{rules}
 use Rattle.rule_check.proofs.letters_in.Goals as goal
 
 pub returns : goal.returns

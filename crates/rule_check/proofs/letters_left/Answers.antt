@@ -1,7 +1,5 @@
 use mathlib.Core.Path.{refl}
-use Prim.Native.Nat.{◌≤◌, ◌-◌}
-use Rattle.mask.proofs.LoopsLaws.{Sought, sought_none, sought_more, sought_all}
-use Rattle.rule_check.specs.RuleCheckInner.{letter_left}
+use Rattle.mask.proofs.LoopsLaws.{sought_none, sought_more, sought_all}
 use borrow.Author.Rules.{rules}
 use Rattle.rule_check.proofs.letters_left.Goals as goal
 

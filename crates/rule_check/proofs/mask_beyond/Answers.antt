@@ -1,5 +1,4 @@
 -- What its three callees ensure, one after the other.
-use borrow.Author.Rules.{rules}
 use Rattle.rule_check.proofs.mask_beyond.Goals as goal
 
 pub returns : goal.returns

@@ -4,7 +4,7 @@ use mathlib.Core.Bool.{Bool, true, false, cond, ◌||◌}
 use mathlib.Core.List.{List}
 use Prim.Native.Nat.{ℕ}
 use Rattle.rule.specs.declared.Rule.{Rule}
-use Rattle.rule.specs.Numbers.{counts_bad, cells_bad, forms_bad, twice, letters_bad}
+use Rattle.rule.specs.Numbers.{counts_bad, cells_bad, forms_bad}
 use Rattle.rule_read.specs.Parts.{rule_of}
 use Rattle.rule_check.specs.RuleCheckInner.{Lies, Fitted, cells_in, forms_in, twice_in, letters_in, number_with}
 use Rattle.rule_check.proofs.FieldsInLaws.{cells-by, forms-by, twice-by, letters-by}

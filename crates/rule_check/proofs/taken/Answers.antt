@@ -1,9 +1,5 @@
 use mathlib.Core.Path.{refl}
-use mathlib.Core.Bool.{◌&&◌}
-use Prim.Native.Nat.{◌+◌, ◌*◌, ◌≤◌, ◌-◌}
-use lib.Dec.{eqb}
-use lib.ListN.{get_or}
-use Rattle.mask.proofs.LoopsLaws.{Sought, sought_none, sought_more, sought_all}
+use Rattle.mask.proofs.LoopsLaws.{sought_none, sought_more, sought_all}
 use Rattle.rule_check.specs.RuleCheckInner.{taken_in}
 use borrow.Author.Rules.{rules}
 use Rattle.rule_check.proofs.taken.Goals as goal

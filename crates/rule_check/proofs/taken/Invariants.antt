@@ -1,12 +1,9 @@
 -- Of the names passed, one is this one exactly when `found`.
-use mathlib.Core.Path.{refl}
 use mathlib.Core.Bool.{◌&&◌}
-use Prim.Native.Nat.{◌+◌, ◌*◌, ◌≤◌, ◌-◌}
+use Prim.Native.Nat.{◌+◌, ◌*◌, ◌≤◌}
 use lib.Dec.{eqb}
 use lib.ListN.{get_or}
-use Rattle.mask.proofs.LoopsLaws.{Sought, sought_none, sought_more, sought_all}
-use Rattle.rule_check.specs.RuleCheckInner.{taken_in}
-use borrow.Author.Rules.{rules}
+use Rattle.mask.proofs.LoopsLaws.{Sought}
 use Rattle.rule_check.proofs.taken.Given as goal
 
 abbrev pub invariant-loop-h : goal.invariant-loop-h

@@ -1,8 +1,5 @@
 use mathlib.Core.Path.{refl}
-use Prim.Native.Nat.{◌+◌, ◌*◌, ◌≤◌, ◌-◌}
-use lib.Dec.{eqb}
-use Rattle.mask.proofs.LoopsLaws.{Sought, sought_none, sought_more, sought_all}
-use Rattle.little.specs.Little.{byte_at}
+use Rattle.mask.proofs.LoopsLaws.{sought_none, sought_more, sought_all}
 use borrow.Author.Rules.{rules}
 use Rattle.rule_check.proofs.target_taken.Goals as goal
 

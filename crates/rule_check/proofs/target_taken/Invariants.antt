@@ -1,10 +1,8 @@
 -- Of the assignments passed, one has the target of assignment j exactly when `bad`.
-use mathlib.Core.Path.{refl}
-use Prim.Native.Nat.{◌+◌, ◌*◌, ◌≤◌, ◌-◌}
+use Prim.Native.Nat.{◌+◌, ◌*◌, ◌≤◌}
 use lib.Dec.{eqb}
-use Rattle.mask.proofs.LoopsLaws.{Sought, sought_none, sought_more, sought_all}
+use Rattle.mask.proofs.LoopsLaws.{Sought}
 use Rattle.little.specs.Little.{byte_at}
-use borrow.Author.Rules.{rules}
 use Rattle.rule_check.proofs.target_taken.Given as goal
 
 abbrev pub invariant-loop-i : goal.invariant-loop-i

@@ -1,6 +1,4 @@
-use Prim.Native.Nat.{◌≤◌, ◌-◌}
-use Rattle.mask.proofs.LoopsLaws.{Sought, sought_none, sought_more, sought_all}
-use Rattle.rule_check.specs.RuleCheckInner.{taken_at}
+use Rattle.mask.proofs.LoopsLaws.{sought_none, sought_more, sought_all}
 use borrow.Author.Rules.{rules}
 use Rattle.rule_check.proofs.targets_twice.Goals as goal
 

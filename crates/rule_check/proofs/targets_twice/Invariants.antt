@@ -1,8 +1,7 @@
 -- Of the assignments passed, one has the target of an earlier one exactly when `bad`.
-use Prim.Native.Nat.{◌≤◌, ◌-◌}
-use Rattle.mask.proofs.LoopsLaws.{Sought, sought_none, sought_more, sought_all}
+use Prim.Native.Nat.{◌≤◌}
+use Rattle.mask.proofs.LoopsLaws.{Sought}
 use Rattle.rule_check.specs.RuleCheckInner.{taken_at}
-use borrow.Author.Rules.{rules}
 use Rattle.rule_check.proofs.targets_twice.Given as goal
 
 abbrev pub invariant-loop-j : goal.invariant-loop-j

@@ -1,8 +1,5 @@
 use mathlib.Core.Path.{refl}
-use Prim.Native.Nat.{◌+◌, ◌*◌, ◌≤◌, ◌-◌}
-use Rattle.mask.proofs.LoopsLaws.{Sought, sought_none, sought_more, sought_all}
-use Rattle.rule.specs.Numbers.{test_cell_bad}
-use Rattle.rule_read.specs.Parts.{test_in}
+use Rattle.mask.proofs.LoopsLaws.{sought_none, sought_more, sought_all}
 use borrow.Author.Rules.{rules}
 use Rattle.rule_check.proofs.test_cells_bad.Goals as goal
 

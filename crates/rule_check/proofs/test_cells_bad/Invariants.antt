@@ -1,10 +1,8 @@
 -- Of the tests passed, one has a bad cell exactly when `bad`.
-use mathlib.Core.Path.{refl}
-use Prim.Native.Nat.{◌+◌, ◌*◌, ◌≤◌, ◌-◌}
-use Rattle.mask.proofs.LoopsLaws.{Sought, sought_none, sought_more, sought_all}
+use Prim.Native.Nat.{◌+◌, ◌*◌, ◌≤◌}
+use Rattle.mask.proofs.LoopsLaws.{Sought}
 use Rattle.rule.specs.Numbers.{test_cell_bad}
 use Rattle.rule_read.specs.Parts.{test_in}
-use borrow.Author.Rules.{rules}
 use Rattle.rule_check.proofs.test_cells_bad.Given as goal
 
 abbrev pub invariant-loop-j : goal.invariant-loop-j

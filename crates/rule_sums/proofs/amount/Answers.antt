@@ -1,5 +1,4 @@
 -- An array of 32 has no cell past 31.
-use borrow.Author.Rules.{rules}
 use mathlib.Core.Path.{sym}
 use native.Mathlib.Omega.{arith}
 use lib.ListN.{get_or-eq_default}

@@ -1,5 +1,4 @@
 -- The product of an amount in range and a p of at most a million is an i64, and so is its quotient.
-use borrow.Author.Rules.{rules}
 use native.Mathlib.Omega.{arith}
 use mathlib.Core.Path.{◌≡◌}
 use lib.IntN.{pos, ◌*ℤ◌}

@@ -4,7 +4,6 @@ use mathlib.Core.Bool.{◌||◌}
 use lib.Dec.{eqb}
 use Rattle.mask.proofs.BitsLaws.{has-zero}
 use Rattle.rule_uses.proofs.UsesLaws.{low, high}
-use borrow.Author.Rules.{rules}
 use Rattle.rule_uses.proofs.cell.Goals as goal
 
 pub returns-then-c-lt32 : goal.returns-then-c-lt32

@@ -13,7 +13,6 @@ use Rattle.rule.specs.Empty.{no_test, no_assign}
 use Rattle.rule.specs.Uses.{test_at, assign_at, test_reads, side_reads, reads}
 use Rattle.rule_read.specs.Parts.{test_in, assign_in, rule_of}
 use Rattle.rule_uses.proofs.UsesLaws.{out-filled}
-use borrow.Author.Rules.{rules}
 use Rattle.rule_uses.proofs.reads.Goals as goal
 
 pub returns : goal.returns

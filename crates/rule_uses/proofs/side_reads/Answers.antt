@@ -5,7 +5,6 @@ use lib.Dec.{eqb, ltb}
 use Rattle.mask.proofs.BitsLaws.{has-or}
 use Rattle.rule.specs.Uses.{uses_a, uses_b}
 use Rattle.rule_uses.proofs.UsesLaws.{out_both}
-use borrow.Author.Rules.{rules}
 use Rattle.rule_uses.proofs.side_reads.Goals as goal
 
 pub returns : goal.returns

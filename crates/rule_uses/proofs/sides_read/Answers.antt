@@ -1,11 +1,9 @@
 use mathlib.Core.Path.{ap, ◌∙◌}
 use mathlib.Core.Bool.{◌&&◌}
-use Prim.Native.Nat.{◌+◌, ◌*◌, ◌≤◌, ◌-◌}
 use lib.Dec.{ltb}
-use Rattle.mask.proofs.LoopsLaws.{United, united_none, united_more, united_all}
+use Rattle.mask.proofs.LoopsLaws.{united_none, united_more, united_all}
 use Rattle.rule.specs.declared.Assign.{Assign}
 use Rattle.rule.specs.Uses.{side_reads}
-use Rattle.rule_read.specs.Parts.{assign_in}
 use borrow.Author.Rules.{rules}
 use Rattle.rule_uses.proofs.sides_read.Goals as goal
 

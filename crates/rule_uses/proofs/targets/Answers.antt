@@ -1,8 +1,4 @@
-use mathlib.Core.Bool.{◌&&◌}
-use Prim.Native.Nat.{◌+◌, ◌*◌, ◌≤◌, ◌-◌}
-use lib.Dec.{ltb, eqb}
-use Rattle.mask.proofs.LoopsLaws.{United, united_none, united_more, united_all}
-use Rattle.little.specs.Little.{byte_at}
+use Rattle.mask.proofs.LoopsLaws.{united_none, united_more, united_all}
 use borrow.Author.Rules.{rules}
 use Rattle.rule_uses.proofs.targets.Goals as goal
 

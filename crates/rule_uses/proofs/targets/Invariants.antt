@@ -1,10 +1,9 @@
 -- The targets passed.
 use mathlib.Core.Bool.{◌&&◌}
-use Prim.Native.Nat.{◌+◌, ◌*◌, ◌≤◌, ◌-◌}
+use Prim.Native.Nat.{◌+◌, ◌*◌, ◌≤◌}
 use lib.Dec.{ltb, eqb}
-use Rattle.mask.proofs.LoopsLaws.{United, united_none, united_more, united_all}
+use Rattle.mask.proofs.LoopsLaws.{United}
 use Rattle.little.specs.Little.{byte_at}
-use borrow.Author.Rules.{rules}
 use Rattle.rule_uses.proofs.targets.Given as goal
 
 abbrev pub invariant-loop-j : goal.invariant-loop-j

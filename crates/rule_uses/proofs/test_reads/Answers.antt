@@ -4,7 +4,6 @@ use mathlib.Core.Bool.{◌||◌, ◌&&◌}
 use lib.Dec.{eqb, ltb}
 use Rattle.mask.proofs.BitsLaws.{has-or}
 use Rattle.rule_uses.proofs.UsesLaws.{out}
-use borrow.Author.Rules.{rules}
 use Rattle.rule_uses.proofs.test_reads.Goals as goal
 
 pub returns : goal.returns

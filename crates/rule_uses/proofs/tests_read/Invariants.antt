@@ -1,13 +1,10 @@
 -- The cells that the tests passed read.
-use mathlib.Core.Path.{ap, ◌∙◌}
 use mathlib.Core.Bool.{◌&&◌}
-use Prim.Native.Nat.{◌+◌, ◌*◌, ◌≤◌, ◌-◌}
+use Prim.Native.Nat.{◌+◌, ◌*◌, ◌≤◌}
 use lib.Dec.{ltb}
-use Rattle.mask.proofs.LoopsLaws.{United, united_none, united_more, united_all}
-use Rattle.rule.specs.declared.Test.{Test}
+use Rattle.mask.proofs.LoopsLaws.{United}
 use Rattle.rule.specs.Uses.{test_reads}
 use Rattle.rule_read.specs.Parts.{test_in}
-use borrow.Author.Rules.{rules}
 use Rattle.rule_uses.proofs.tests_read.Given as goal
 
 abbrev pub invariant-loop-j : goal.invariant-loop-j

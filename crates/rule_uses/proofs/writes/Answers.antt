@@ -8,7 +8,6 @@ use Rattle.rule.specs.Empty.{no_assign}
 use Rattle.rule.specs.Uses.{writes}
 use Rattle.rule_read.specs.Parts.{assign_in}
 use Rattle.rule_uses.proofs.UsesLaws.{out-filled}
-use borrow.Author.Rules.{rules}
 use Rattle.rule_uses.proofs.writes.Goals as goal
 
 pub returns : goal.returns

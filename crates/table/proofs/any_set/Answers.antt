@@ -1,8 +1,5 @@
-use mathlib.Core.Path.{◌≡◌, refl}
-use Prim.Native.Nat.{◌≤◌, ◌-◌}
-use lib.ListN.{length, get_or}
-use Rattle.mask.proofs.LoopsLaws.{Sought, sought_none, sought_more, sought_all}
-use Rattle.rule.specs.Numbers.{not_zero}
+use mathlib.Core.Path.{refl}
+use Rattle.mask.proofs.LoopsLaws.{sought_none, sought_more, sought_all}
 use Rattle.table.specs.TableInner.{any_set}
 use borrow.Author.Rules.{rules}
 use Rattle.table.proofs.any_set.Goals as goal

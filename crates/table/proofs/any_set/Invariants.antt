@@ -1,11 +1,9 @@
 -- Of the bytes passed, one is not 0 exactly when `any`.
-use mathlib.Core.Path.{◌≡◌, refl}
-use Prim.Native.Nat.{◌≤◌, ◌-◌}
+use mathlib.Core.Path.{◌≡◌}
+use Prim.Native.Nat.{◌≤◌}
 use lib.ListN.{length, get_or}
-use Rattle.mask.proofs.LoopsLaws.{Sought, sought_none, sought_more, sought_all}
+use Rattle.mask.proofs.LoopsLaws.{Sought}
 use Rattle.rule.specs.Numbers.{not_zero}
-use Rattle.table.specs.TableInner.{any_set}
-use borrow.Author.Rules.{rules}
 use Rattle.table.proofs.any_set.Given as goal
 
 abbrev pub invariant-loop-j : goal.invariant-loop-j

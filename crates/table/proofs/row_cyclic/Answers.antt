@@ -5,7 +5,6 @@ use lib.Dec.{ltb}
 use Rattle.mask.proofs.SearchLaws.{some_same, some_below}
 use Rattle.mask.specs.Mask.{has, meet}
 use Rattle.graph.specs.Graph.{leads, cyclic}
-use borrow.Author.Rules.{rules}
 use Rattle.table.proofs.row_cyclic.Goals as goal
 
 pub returns : goal.returns

@@ -5,7 +5,6 @@ use Prim.Native.Nat.{ℕ}
 use Rattle.graph.specs.Graph.{leads}
 use Rattle.table.specs.Table.{goes_before}
 use Rattle.table.specs.Memory.{table_from}
-use borrow.Author.Rules.{rules}
 use Rattle.table_rows.proofs.goes_before.Goals as goal
 
 pub returns : goal.returns

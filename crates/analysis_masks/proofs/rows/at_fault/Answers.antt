@@ -1,6 +1,5 @@
 -- Who names itself in the closure reaches itself.
 use mathlib.Core.Path.{◌∙◌}
-use borrow.Author.Rules.{rules}
 use Rattle.analysis_masks.proofs.rows.at_fault.Goals as goal
 
 pub returns : goal.returns

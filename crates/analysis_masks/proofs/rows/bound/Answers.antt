@@ -16,7 +16,6 @@ use Rattle.analysis_masks.specs.Cleared.{Faulty}
 use Rattle.analysis_masks.proofs.AlikeLaws.{may-within, triggers-rows}
 use Rattle.analysis_masks.proofs.ReportingLaws.{faulty-iff}
 use Rattle.analysis_masks.proofs.BoundLaws.{bounded-endless, bounded-done}
-use borrow.Author.Rules.{rules}
 use Rattle.analysis_masks.proofs.rows.bound.Goals as goal
 use Rattle.analysis_masks.proofs.rows.bound.Goals.{After-at_fault, After-triggers-trig, Start}
 
