@@ -53,9 +53,9 @@ masks-orderly t s h =
     }
 
 -- rows that are a table's own
-pub rows_of : (t : Table) {n : ℕ} {watch reads writes precedes : List ℕ} → n ≡ t.n → watch ≡ watches_of t → reads ≡ (masks_of t).reads
+pub rows_of_lem : (t : Table) {n : ℕ} {watch reads writes precedes : List ℕ} → n ≡ t.n → watch ≡ watches_of t → reads ≡ (masks_of t).reads
     → writes ≡ (masks_of t).writes → precedes ≡ precedes_of t → masks_in n watch reads writes precedes ≡ masks_of t
-rows_of t a b c d e = rw (a, b, c, d, e)
+rows_of_lem t a b c d e = rw (a, b, c, d, e)
 
 -- one more mask of the cells that a test picks in each rule of a table; r is its rule i
 pub cells-more : (t : Table) (f : Rule → ℕ → Bool) (i : ℕ) → i < 32 → {r : Rule} → r ≡ rule_at t i → {m : ℕ} → m < 2 ^ 32
@@ -105,7 +105,7 @@ module _ (s : List ℕ) where
     pub rows-from : {watch reads writes precedes : List ℕ} → watch ≡ watches_of (table_from s) → reads ≡ (masks_of (table_from s)).reads
         → writes ≡ (masks_of (table_from s)).writes → precedes ≡ precedes_of (table_from s)
         → masks_in n watch reads writes precedes ≡ masks_of (table_from s)
-    rows-from = rows_of (table_from s) count-from
+    rows-from = rows_of_lem (table_from s) count-from
 
     pub triggering-from : {watch writes : List ℕ} → watch ≡ watches_of (table_from s) → writes ≡ (masks_of (table_from s)).writes
         → triggering n watch writes ≡ triggering (table_from s).n (masks_of (table_from s)).watch (masks_of (table_from s)).writes

@@ -19,8 +19,8 @@ module _ (s : List ℕ) (i : ℕ) (good : body_bad s i ≡ false) where
       let at = start_of s i in
       name-long s (at + 12 + 12 * byte_at s (at + 8) + 20 * byte_at s (at + 9)) (byte_at s (at + 10)) (counts s i good).counted.letters
 
-  pub body_bytes : Bytes s → Bytes (body_in s i).name
-  body_bytes =
+  pub body_bytes_lem : Bytes s → Bytes (body_in s i).name
+  body_bytes_lem =
       let at = start_of s i in
       name-bytes s (at + 12 + 12 * byte_at s (at + 8) + 20 * byte_at s (at + 9)) (byte_at s (at + 10)) (counts s i good).counted.letters
 

@@ -20,7 +20,7 @@ use Rattle.book_judge.specs.Read.{rule_in, number_in, table_in, refusal, told}
 use Rattle.book_judge.specs.BookJudgeInner.{taken, n_of, k_of, body_in, body_bad, Stretch, bodies_of}
 use Rattle.book_judge.proofs.ReadLaws.{rule_in_lem, number-body, number-good, refused-at, none-refused}
 use Rattle.book_judge.proofs.InsideLaws.{counts, room}
-use Rattle.book_judge.proofs.JudgeLaws.{body-long, body_bytes}
+use Rattle.book_judge.proofs.JudgeLaws.{body-long, body_bytes_lem}
 use borrow.Author.Rules.{rules}
 use Rattle.book_judge.proofs.judge_bodies.Statement.{statement}
 use Rattle.book_judge.proofs.judge_bodies.Tie as tie
@@ -117,7 +117,7 @@ module _ (c : tie.After-number_of-c invariant-loop-i decreases-loop-i) where
   rule = body_in (book (turn body)) (turn body).loop-i.i
 
   letters : Bytes rule.name
-  letters = body_bytes (book (turn body)) (turn body).loop-i.i (good body.before.before) (bytes (turn body))
+  letters = body_bytes_lem (book (turn body)) (turn body).loop-i.i (good body.before.before) (bytes (turn body))
 
   whole-name : length rule.name ≡ 16
   whole-name = body-long (book (turn body)) (turn body).loop-i.i (good body.before.before)

@@ -15,7 +15,7 @@ use Rattle.table.specs.Table.{rule_at}
 use Rattle.book_judge.specs.Read.{table_in}
 use Rattle.book_judge.specs.BookJudgeInner.{n_of}
 use Rattle.analysis.specs.TableMasks.{cells_of}
-use Rattle.analysis.proofs.TableMasksLaws.{rows_of, cells-more}
+use Rattle.analysis.proofs.TableMasksLaws.{rows_of_lem, cells-more}
 use Rattle.report_masks.proofs.BodyMasksLaws.{in_book, few-rules, body_is, body-room}
 use borrow.Author.Rules.{rules}
 use Rattle.report_masks.proofs.taken.Statement.{statement}
@@ -137,7 +137,7 @@ returns c =
     let l = c.loop-i in
     let b = book c.before.before.before.before.before in
     let e : l.i ≡ n_of b = omega (arith, l.invariant.0, c.loop-i-test.false, c.count-n.ensures.0) in
-    rows_of (table_in b) c.count-n.ensures.0
+    rows_of_lem (table_in b) c.count-n.ensures.0
     (l.invariant.2 ∙ ap (filled 32 0 (row (λ r. r.watch) b)) e)
     (l.invariant.3 ∙ ap (filled 32 0 (cells_of reads (table_in b))) e)
     (l.invariant.4 ∙ ap (filled 32 0 (cells_of writes (table_in b))) e)
