@@ -1,6 +1,7 @@
--- 6 to 9 of a rule are those of the bytes where it lies: the slots that are filled hold what stands there.
+-- 6 to 9 of a rule are those of the bytes where it lies: the slots that are filled hold what stands there. So its number is told by
+-- the bytes.
 use mathlib.Core.Path.{◌≡◌, refl, sym, ap₂}
-use mathlib.Core.Bool.{Bool, not, ◌&&◌, ◌||◌, cond}
+use mathlib.Core.Bool.{Bool, true, false, not, ◌&&◌, ◌||◌, cond}
 use mathlib.Core.List.{List}
 use Prim.Native.Nat.{ℕ, ◌+◌, ◌*◌, ◌<◌}
 use native.Mathlib.Nat.{le_trans}
@@ -15,10 +16,10 @@ use Rattle.rule.specs.declared.Assign.{Assign}
 use Rattle.rule.specs.Empty.{no_test, no_assign}
 use Rattle.rule.specs.Uses.{assign_at}
 use Rattle.rule.proofs.FillLaws.{get_or-filled, some-filled, slots_filled}
-use Rattle.rule.specs.Numbers.{not_zero, test_cell_bad, assign_cell_bad, test_form_bad, assign_form_bad, test_slot_bad, assign_slot_bad, letter_bad, cells_bad, forms_bad, twice, letters_bad}
+use Rattle.rule.specs.Numbers.{not_zero, test_cell_bad, assign_cell_bad, test_form_bad, assign_form_bad, test_slot_bad, assign_slot_bad, letter_bad, counts_bad, cells_bad, forms_bad, twice, letters_bad}
 use Rattle.little.specs.Little.{byte_at, u32_at}
 use Rattle.rule_read.specs.Parts.{test_in, assign_in, rule_of}
-use Rattle.rule_check.specs.RuleCheckInner.{Fitted, cells_in, forms_in, twice_in, letters_in}
+use Rattle.rule_check.specs.RuleCheckInner.{Fitted, Lies, cells_in, forms_in, twice_in, letters_in, number_with}
 
 module _ (s : List ℕ) (i t a m : ℕ) (h : Fitted s i t a m) where
   abbrev rule : Rule
@@ -73,3 +74,22 @@ module _ (s : List ℕ) (i t a m : ℕ) (h : Fitted s i t a m) where
   pub letters-by : letters_in s i t a ≡ letters_bad rule
   unfolding letters_bad
   letters-by = sym (some-filled 16 0 letter m cm letter_bad h.within.letters)
+
+module _ (s : List ℕ) (at t a m n k : ℕ) (taken : Bool) (lies : Lies s at t a m) where
+  -- the number by the tests of the bytes, where 5 is one of them
+  abbrev pub in_bytes : Bool → ℕ
+  in_bytes five =
+      cond five 5
+      (cond (cells_in s at t n k) 6
+      (cond (forms_in s at t a m) 7 (cond (twice_in s at t) 8 (cond (letters_in s at t a || taken) 9 0))))
+
+  -- past 5 the counts are in bounds, so that the other tests are those of the rule
+  pub numbered : number_with n k taken (rule_of s at t a m) ≡ in_bytes (counts_bad (rule_of s at 0 0 0))
+  unfolding number_with counts_bad
+  numbered = go (counts_bad (rule_of s at 0 0 0)) refl
+    where
+      go : (b : Bool) → counts_bad (rule_of s at 0 0 0) ≡ b → number_with n k taken (rule_of s at t a m) ≡ in_bytes b
+      go true h = rw h
+      go false h =
+          let f : Fitted s at t a m = record { room = lies.room; within = lies.counted h } in
+          rw (h, cells-by s at t a m f n k, forms-by s at t a m f, twice-by s at t a m f, letters-by s at t a m f)

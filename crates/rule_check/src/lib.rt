@@ -189,6 +189,7 @@ fn letters_in(s: &[u8], at: usize, t: usize, a: usize, m: usize) -> bool
 }
 
 // Its number, or 0, where it is known whether an earlier rule has its name.
+#[tactic(auto, using(crate::proofs::FieldsInLaws::numbered))]
 pub fn number_in(s: &[u8], at: usize, t: usize, a: usize, m: usize, n: u8, k: u8, taken: bool) -> u8
     requires { Lies s.now at t a m × (n ≤ 32) × (k ≤ 32) }
     ensures { result ≡ number_with n k taken (rule_of s.now at t a m) }
