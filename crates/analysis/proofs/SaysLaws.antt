@@ -3,11 +3,11 @@ use mathlib.Core.Path.{◌≡◌, sym, ap, ◌∙◌, subst}
 use Prim.Native.Nat.{ℕ, ◌^◌, ◌<◌}
 use native.Mathlib.Decide.{ℕ_discrete}
 use Rattle.table.specs.Table.{Table, rule_at}
-use Rattle.table.specs.declared.Answer.{Answer}
+use Rattle.refusal.specs.Answer.{Answer}
 use Rattle.table.specs.Check.{check_of, Checked, Sound}
 use Rattle.table.proofs.SoundLaws.{sound-by}
-use Rattle.analysis_masks.specs.declared.Report.{Report}
-use Rattle.analysis_masks.specs.declared.Bound.{Bound}
+use Rattle.analysis_masks.specs.Report.{Report}
+use Rattle.analysis_masks.specs.Bound.{Bound}
 use Rattle.analysis_pairs.specs.declared.Masks.{Masks}
 use Rattle.analysis_masks.specs.Report.{Reported}
 use Rattle.analysis_masks.specs.Bound.{Bounded}
@@ -19,14 +19,6 @@ use Rattle.analysis.specs.Says.{ReportSays, BoundSays}
 
 -- ---- of any call that first makes the checks
 module _ {A : Type 0} {refusal : ℕ → ℕ → A} {Done : A → Type 0} where
-  -- where they give a number it is refused by it
-  pub refuses : {check a : Answer} → a ≡ check → (a.number ≡ 0 → ⊥) → Checked check refusal Done (refusal a.number a.place)
-  refuses e ne =
-      record {
-        refused = λ z. ap (λ (x : Answer). refusal x.number x.place) e;
-        done = λ z. absurd (ne (ap (λ (x : Answer). x.number) e ∙ z));
-      }
-
   -- of a sound table no answer is refused
   sound-says : {t : Table} {x : A} → Sound t → Done x → Checked (check_of t) refusal Done x
   sound-says s h =
@@ -39,10 +31,6 @@ module _ {A : Type 0} {refusal : ℕ → ℕ → A} {Done : A → Type 0} where
         | yes e ↦ h e (p.done e) (q.done e)
         | no ne ↦ p.refused ne ∙ sym (q.refused ne)
       ]
-
--- a table whose checks give no number is sound
-pub sound-checked : {t : Table} {a : Answer} → a ≡ check_of t → a.number ≡ 0 → Sound t
-sound-checked {t} e z = sound-by t (sym (ap (λ (x : Answer). x.number) e) ∙ z)
 
 -- ---- the two calls
 

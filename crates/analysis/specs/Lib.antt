@@ -1,4 +1,3 @@
--- What the contracts of `analysis` cite; `AnalysisInner` is for inner functions alone.
-pub mod AnalysisInner
+-- What the contracts of `analysis` cite.
 pub mod Says
 pub mod TableMasks

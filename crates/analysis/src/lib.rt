@@ -1,107 +1,64 @@
 // The analysis of a table: whether it is cleared, which rules stand in the way, and the step bound of a set.
 #![tactic(auto)]
 
-ghost use Rattle.std.specs.Prelude.{◌≡◌, length};
+ghost use Rattle.std.specs.Prelude.{◌≡◌, ◌<◌};
+ghost use Rattle.little.specs.Little.{byte_at};
+ghost use Rattle.rule.specs.Uses.{reads, writes};
 ghost use Rattle.table.specs.Check.{Sound};
 ghost use Rattle.table.specs.Memory.{table_from};
-ghost use Rattle.analysis_masks.specs.Report.{Reported};
-ghost use Rattle.analysis_masks.specs.AnalysisMasksInner.{report_in};
-ghost use Rattle.analysis_marks.specs.AnalysisMarksInner.{no_marks};
-ghost use Rattle.analysis_masks.specs.Bound.{Bounded};
-ghost use Rattle.analysis.specs.TableMasks.{masks_of};
-ghost use Rattle.analysis.specs.AnalysisInner.{SoundBytes};
-ghost use Rattle.analysis.specs.Says.{refused_report, ReportSays, BoundSays};
+ghost use Rattle.analysis_masks.specs.Found.{report_of, bound_of};
+ghost use Rattle.analysis.specs.TableMasks.{cells_of, masks_of};
+ghost use Rattle.analysis.specs.Says.{ReportSays, BoundSays};
 
-use analysis_masks::{Bound, Report, Summary};
+use analysis_masks::Findings;
+use analysis_pairs::Masks;
+use refusal::Refusal;
 
-// The cells that each rule of a sound table reads, as a row of masks; 0 past the last rule.
-fn reads(s: &[u8], n: usize) -> [u32; 32]
-    requires { SoundBytes s.now n }
-    ensures { result ≡ (masks_of (table_from s.now)).reads }
+// The cells that rule r of a sound table reads.
+fn reads(table: &[u8; 9092], r: usize) -> u32
+    requires { Sound (table_from table.now) × (r < byte_at table.now 1) }
+    ensures { result ≡ cells_of reads (table_from table.now) r }
 {
-    let mut q = [0u32; 32];
-    for i in 0..n {
-        q[i] = rule_uses::reads(s, 4 + 284 * i, 8, 8);
-    }
-    q
+    rule_uses::reads(table, 4 + 284 * r, 8, 8)
 }
 
-// The cells that each rule writes.
-fn writes(s: &[u8], n: usize) -> [u32; 32]
-    requires { SoundBytes s.now n }
-    ensures { result ≡ (masks_of (table_from s.now)).writes }
+// The cells that it writes. Two functions and not one with a closure, which would need a clause of its own; no plainer.
+fn writes(table: &[u8; 9092], r: usize) -> u32
+    requires { Sound (table_from table.now) × (r < byte_at table.now 1) }
+    ensures { result ≡ cells_of writes (table_from table.now) r }
 {
-    let mut q = [0u32; 32];
-    for i in 0..n {
-        q[i] = rule_uses::writes(s, 4 + 284 * i, 8, 8);
-    }
-    q
+    rule_uses::writes(table, 4 + 284 * r, 8, 8)
 }
 
-// The report on a sound table: its marks are filled in where all were 0, the rest is given back.
-fn judged(s: &[u8], marks: &mut [u8; 496]) -> Summary
-    requires { (length s.now ≡ 9092) × Sound (table_from s.now) × (marks.old ≡ no_marks) }
-    ensures { Reported (masks_of (table_from s.now)) (report_in result marks.new) }
+// The four rows of masks of a sound table.
+#[tactic(auto, using(crate::proofs::TableMasksLaws::few_rules))]
+fn masks(table: &[u8; 9092]) -> Masks
+    requires { Sound (table_from table.now) }
+    ensures { result ≡ masks_of (table_from table.now) }
 {
-    let n = rule::count(s[1]);
-    let watch = table_rows::watches(s, n);
-    let read = reads(s, n);
-    let written = writes(s, n);
-    let precedes = table_rows::precedes(s, n);
-    analysis_masks::rows::judged(n, &watch, &read, &written, &precedes, marks)
-}
-
-// The step bound of a set of rules of a sound table.
-fn bounded(s: &[u8], set: u32) -> Bound
-    requires { (length s.now ≡ 9092) × Sound (table_from s.now) }
-    ensures { Bounded (masks_of (table_from s.now)) set result }
-{
-    let n = rule::count(s[1]);
-    let watch = table_rows::watches(s, n);
-    let written = writes(s, n);
-    analysis_masks::rows::bound(n, &watch, &written, set)
-}
-
-// A refused report.
-pub fn no_report(number: u8, place: u8) -> Report
-    ensures { result ≡ refused_report number place }
-{
-    Report {
-        number: number,
-        place: place,
-        cleared: false,
-        faulty: 0,
-        marks: [0u8; 496],
-        failing: 0,
-        first: 0,
-        second: 0,
-        culprit: 0,
-        other: 0,
+    let n = usize::from(table[1]);
+    Masks {
+        n,
+        watch: table_rows::watches(table),
+        reads: mask::row(n, |r| reads(table, r)),
+        writes: mask::row(n, |r| writes(table, r)),
+        precedes: table_rows::precedes(table),
     }
 }
 
-pub fn report(table: &[u8; 9092]) -> Report
-    ensures { ReportSays (table_from table.now) result }
+pub fn report(table: &[u8; 9092]) -> Result<Findings, Refusal>
+    ensures { ReportSays (table_from table.now) (report_of result) }
 {
-    let a = table::check(table);
-    if a.number != 0 {
-        return no_report(a.number, a.place);
-    }
+    table::check(table)?;
     let mut marks = [0u8; 496];
-    let v = judged(table, &mut marks);
-    analysis_masks::whole(v, &marks)
+    let summary = analysis_masks::rows::judged(&masks(table), &mut marks);
+    Ok(Findings { summary, marks })
 }
 
-pub fn bound(table: &[u8; 9092], set: u32) -> Bound
-    ensures { BoundSays (table_from table.now) set result }
+pub fn bound(table: &[u8; 9092], set: u32) -> Result<u32, Refusal>
+    ensures { BoundSays (table_from table.now) set (bound_of result) }
 {
-    let a = table::check(table);
-    if a.number != 0 {
-        return Bound {
-            number: a.number,
-            place: a.place,
-            bound: 0,
-        };
-    }
-    bounded(table, set)
+    table::check(table)?;
+    let m = masks(table);
+    analysis_masks::rows::bound(m.n, &m.watch, &m.writes, set)
 }

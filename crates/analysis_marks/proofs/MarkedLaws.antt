@@ -1,7 +1,7 @@
 -- What the marks tell: which pairs fail, and which of them is the first.
 use mathlib.Core.Path.{◌≡◌, refl, ◌∙◌}
 use mathlib.Core.Logic.{inl, inr}
-use mathlib.Core.Bool.{Bool, true, false}
+use mathlib.Core.Bool.{true}
 use mathlib.Core.List.{List}
 use Prim.Native.Nat.{ℕ, ◌<◌}
 use native.Mathlib.Nat.{lt_irrefl, le_trans}
@@ -11,12 +11,12 @@ use borrow.Author.Tests.{eqb-true, eqb-false}
 use Rattle.mask.specs.Search.{count, least}
 use Rattle.mask.proofs.SearchLaws.{least-is}
 use Rattle.analysis_pairs.specs.Rules.{Rules, Unordered, Passes, Culprits}
-use Rattle.analysis_pairs.specs.AnalysisPairsInner.{Judged}
 use Rattle.analysis_pairs.proofs.RulesLaws.{Alike, culprits-alike}
 use Rattle.analysis_marks.specs.AnalysisMarksInner.{Graphs, graph_rules, Marks, Twos}
 use Rattle.analysis_marks.specs.Index.{index}
-use Rattle.mask.proofs.CountsLaws.{count_none, count-some}
-use Rattle.analysis_marks.specs.Marks.{Marked, absent, ordered, passes, fails, fails_at, FirstOf}
+use Rattle.analysis_marks.proofs.IndexLaws.{index-lt}
+use Rattle.mask.proofs.CountsLaws.{count-some}
+use Rattle.analysis_marks.specs.Marks.{Marked, absent, ordered, passes, fails, fails_at, First, FirstOf}
 
 -- ---- what a mark tells
 
@@ -45,36 +45,30 @@ marks_twos g q marks = record { fails = λ i j low high e. (mark-fails (marks i 
 
 -- ---- the first failing pair
 
-pub first-none : (b : Rules) (q : List ℕ) (k : ℕ) → k ≡ least 496 (fails_at q) → k ≡ 496 → FirstOf b q 0 0 0 0
-first-none b q k e z =
-    record {
-      none = λ h. (refl, refl, refl, refl);
-      some = λ h.
-          let c : count 496 (fails_at q) ≡ 0 =
-          count_none 496 (fails_at q) (λ i l. (least-is 496 (fails_at q)).first i (omega (arith, e))) in
-          let f : ⊥ = omega arith in absurd f;
-    }
+-- the pair whose mark 2 is the first
+pub first_fails : {b : Rules} {q : List ℕ} {i j k : ℕ} → Twos b q → k < 496 → fails_at q k ≡ true → i < j → j < 32 → index i j ≡ k
+    → Passes b i j → ⊥
+first_fails {q = q} {i = i} {j = j} {k = k} twos l two low high at =
+    twos.fails i j low high (eqb-true (get_or q (index i j) 0) 2 (rw at two))
 
-pub first_some : (b : Rules) (q : List ℕ) (i j k c o : ℕ) (f : Bool) → Twos b q → k ≡ least 496 (fails_at q) → k < 496
-    → i < j → j < 32 → index i j ≡ k → Judged b i j f c o → FirstOf b q i j c o
-first_some b q i j k c o f twos e l low high at d =
-    record {
-      none = λ h. let z : ⊥ = omega (arith, count-some 496 (fails_at q) (index i j) (omega arith) two) in absurd z;
-      some = λ h.
-          record {
-            low = low;
-            high = high;
-            earliest = at ∙ e;
-            culprits = pick f refl;
-          };
-    }
+pub first_some : {b : Rules} {q : List ℕ} {i j k c o : ℕ} → k ≡ least 496 (fails_at q) → i < j → j < 32 → index i j ≡ k
+    → Culprits b i j c o → First b q i j c o
+first_some e low high at d = record { low = low; high = high; earliest = at ∙ e; culprits = d }
+
+-- where there is a first failing pair, some mark is 2
+pub first_counts : {b : Rules} {q : List ℕ} {i j c o : ℕ} → First b q i j c o → 0 < count 496 (fails_at q)
+first_counts {q = q} {i = i} {j = j} f =
+    count-some 496 (fails_at q) (index i j) here (rw f.earliest ((least-is 496 (fails_at q)).is (rw f.earliest at here)))
   where
-    two : fails_at q (index i j) ≡ true
-    two = rw (at, e) ((least-is 496 (fails_at q)).is (rw e at l))
+    here : index i j < 496
+    here = index-lt i j f.low f.high
 
-    pick : (t : Bool) → f ≡ t → Culprits b i j c o
-    pick true z = d.failing z
-    pick false z = absurd (twos.fails i j low high (eqb-true (get_or q (index i j) 0) 2 two) (d.passing z).0)
+-- what is found, as a report tells it
+pub first-of_none : {b : Rules} {q : List ℕ} → count 496 (fails_at q) ≡ 0 → FirstOf b q 0 0 0 0
+first-of_none e = record { none = λ h. (refl, refl, refl, refl); some = λ h. let z : ⊥ = omega arith in absurd z }
+
+pub first-of_some : {b : Rules} {q : List ℕ} {i j c o : ℕ} → First b q i j c o → FirstOf b q i j c o
+first-of_some f = record { none = λ h. let z : ⊥ = omega (arith, first_counts f) in absurd z; some = λ h. f }
 
 pub first_alike : {a b : Rules} {q : List ℕ} {i j c o : ℕ} → Alike a b → FirstOf a q i j c o → FirstOf b q i j c o
 first_alike h f =

@@ -19,7 +19,7 @@ use Rattle.analysis_weights.proofs.WeightLaws.{total-weights}
 use Rattle.analysis_pairs.specs.declared.Masks.{Masks}
 use Rattle.analysis_pairs.specs.RuleMasks.{may_trigger, triggers}
 use Rattle.analysis_pairs.specs.AnalysisPairsInner.{triggering}
-use Rattle.analysis_masks.specs.declared.Bound.{Bound}
+use Rattle.analysis_masks.specs.Bound.{Bound}
 use Rattle.analysis_masks.specs.AnalysisMasksInner.{Orderly}
 use Rattle.analysis_masks.specs.Cleared.{Faulty}
 use Rattle.analysis_masks.proofs.AlikeLaws.{triggers-rows}

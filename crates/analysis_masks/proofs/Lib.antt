@@ -2,6 +2,7 @@
 pub mod AlikeLaws
 pub mod BoundLaws
 pub mod ClearedLaws
+pub mod FoundLaws
 pub mod ReportLaws
 pub mod ReportingLaws
 pub mod SidesLaws

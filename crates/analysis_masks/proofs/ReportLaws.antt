@@ -19,7 +19,7 @@ use Rattle.analysis_pairs.specs.declared.Masks.{Masks}
 use Rattle.analysis_pairs.specs.Rules.{Rules, Unordered}
 use Rattle.analysis_pairs.specs.RuleMasks.{rules_of}
 use Rattle.analysis_pairs.proofs.RulesLaws.{Alike, passes-alike, turned, culprits-unique}
-use Rattle.analysis_masks.specs.declared.Report.{Report}
+use Rattle.analysis_masks.specs.Report.{Report}
 use Rattle.analysis_marks.specs.Index.{index}
 use Rattle.analysis_marks.proofs.IndexLaws.{PairAt, pair-at, index_inj}
 use Rattle.analysis_marks.specs.Marks.{Marked, absent, ordered, passes, fails, fails_at, First, FirstOf}

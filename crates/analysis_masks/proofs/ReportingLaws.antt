@@ -24,12 +24,17 @@ use Rattle.analysis_marks.specs.Index.{index}
 use Rattle.analysis_marks.proofs.IndexLaws.{index-lt, PairAt, pair-at}
 use Rattle.mask.proofs.CountsLaws.{count_none, count-some}
 use Rattle.analysis_masks.specs.Cleared.{Faulty, Cleared}
-use Rattle.analysis_marks.specs.Marks.{Marked, fails_at}
+use Rattle.analysis_marks.specs.Marks.{Marked, fails_at, FirstOf}
 use Rattle.analysis_masks.proofs.ReportLaws.{marked-alike}
 use Rattle.analysis_marks.proofs.MarkingLaws.{Drawn}
 use Rattle.analysis_masks.proofs.AlikeLaws.{triggers-rows}
 use Rattle.analysis_masks.proofs.ClearedLaws.{cleared-below}
-use Rattle.analysis_marks.proofs.MarkedLaws.{Fails, mark-fails, mark-passes}
+use Rattle.analysis_marks.proofs.MarkedLaws.{Fails, mark-fails, mark-passes, first-of_none, first-of_some}
+use Rattle.analysis_pairs.specs.Rules.{Rules}
+use Rattle.analysis_marks.specs.declared.Failing.{Failing}
+use Rattle.analysis_marks.specs.AnalysisMarksInner.{FirstFound}
+use Rattle.analysis_masks.specs.Found.{pair_of}
+use Rattle.std.proofs.Common.{Option, Some, None}
 
 -- the mask of the rules that reach themselves
 pub faulty-iff : (m : Masks) → Orderly m → (f : ℕ) (trig : List ℕ) (n : ℕ) → trig ≡ triggers m → n ≡ m.n
@@ -86,3 +91,9 @@ module _ (m : Masks) (o : Orderly m) (g : Graphs) (d : Drawn m g) where
         back w =
             ap₂ ◌&&◌ (eq-eqb f 0 (no_member f lf (λ x l. none w x (has f x) refl)))
             (eq-eqb c 0 (hc ∙ count_none 496 (fails_at q) (λ k l. unmarked w k l (fails_at q k) refl)))
+
+-- what is found of the first failing pair, as the report tells it
+pub found_told : {b : Rules} {q : List ℕ} (o : Option Failing) → FirstFound b q o
+    → FirstOf b q (pair_of o).first (pair_of o).second (pair_of o).culprit (pair_of o).other
+found_told None h = first-of_none h
+found_told (Some f) h = first-of_some h

@@ -2,8 +2,6 @@
 use Rattle.std.specs.Prelude.{◌≡◌, List, ℕ, ◌≤◌, get_or}
 use Rattle.graph.specs.GraphInner.{Rows}
 use Rattle.analysis_pairs.specs.declared.Masks.{Masks}
-use Rattle.analysis_masks.specs.declared.Report.{Report}
-use Rattle.analysis_masks.specs.declared.Summary.{Summary}
 
 -- every mask from n up is 0
 abbrev pub Past : ℕ → List ℕ → Type 0
@@ -17,19 +15,3 @@ pub record Orderly (m : Masks) : Type 0 where
   pub reads : Past m.n m.reads
   pub writes : Past m.n m.writes
   pub precedes : Past m.n m.precedes
-
--- the report that is done, of its summary and its marks
-abbrev pub report_in : Summary → List ℕ → Report
-report_in v marks =
-    record {
-      number = 0;
-      place = 255;
-      cleared = v.cleared;
-      faulty = v.faulty;
-      marks = marks;
-      failing = v.failing;
-      first = v.first;
-      second = v.second;
-      culprit = v.culprit;
-      other = v.other;
-    }

@@ -2,4 +2,5 @@
 pub mod AnalysisMasksInner
 pub mod Bound
 pub mod Cleared
+pub mod Found
 pub mod Report

@@ -2,80 +2,61 @@
 ghost use Rattle.std.specs.Prelude.{◌≡◌, ℕ, ◌≤◌};
 ghost use Rattle.mask.specs.Mask.{has};
 ghost use Rattle.graph.specs.Graph.{leads};
-ghost use Rattle.analysis_pairs.specs.AnalysisPairsInner.{masks_in, triggering};
-ghost use Rattle.analysis_masks.specs.AnalysisMasksInner.{Orderly, report_in};
+ghost use Rattle.analysis_pairs.specs.AnalysisPairsInner.{triggering};
+ghost use Rattle.analysis_masks.specs.AnalysisMasksInner.{Orderly};
 ghost use Rattle.analysis_marks.specs.AnalysisMarksInner.{no_marks};
 ghost use Rattle.analysis_masks.specs.Report.{Reported};
 ghost use Rattle.analysis_masks.specs.Bound.{Bounded};
+ghost use Rattle.analysis_masks.specs.Found.{report_in, bound_of};
 
-use crate::{Bound, Summary};
+use crate::found::Summary;
+use analysis_pairs::{Masks, Relations};
+use refusal::Refusal;
 
 // The rules that reach themselves.
-fn at_fault(trig: &[u32; 32], n: usize) -> u32
+fn at_fault(trig: [u32; 32], n: usize) -> u32
     requires { n ≤ 32 }
-    ensures { (r : ℕ) → has result r ≡ leads trig.now n r r }
+    ensures { (r : ℕ) → has result r ≡ leads trig n r r }
 {
-    let rows = *trig;
-    graph::loops(graph::closure(rows, n))
+    graph::loops(graph::closure(trig, n))
 }
 
-// The report: its marks are filled in where all were 0, the rest is given back.
-pub fn judged(
-    n: usize,
-    watch: &[u32; 32],
-    reads: &[u32; 32],
-    writes: &[u32; 32],
-    precedes: &[u32; 32],
-    marks: &mut [u8; 496],
-) -> Summary
-    requires { Orderly (masks_in n watch.now reads.now writes.now precedes.now) × (marks.old ≡ no_marks) }
-    ensures { Reported (masks_in n watch.now reads.now writes.now precedes.now) (report_in result marks.new) }
+// The report: its marks are filled in where all were 0, which is the form that the paper names; the rest is given back.
+pub fn judged(m: &Masks, marks: &mut [u8; 496]) -> Summary
+    requires { Orderly m.now × (marks.old ≡ no_marks) }
+    ensures { Reported m.now (report_in result marks.new) }
 {
-    let trig = analysis_pairs::triggers(watch, writes, n);
-    let clash = analysis_pairs::clashes(watch, reads, writes, n);
-    let rows = *precedes;
-    let before = graph::closure(rows, n);
-    let ahead = analysis_pairs::turned(&before, n);
-    let faulty = at_fault(&trig, n);
-    analysis_marks::filled(&trig, &ahead, &clash, n, marks);
-    let c = analysis_marks::failing(marks);
-    let f = analysis_marks::first_failing(&trig, &ahead, &clash, marks);
+    let n = m.n;
+    let before = graph::closure(m.precedes, n);
+    let relations = Relations {
+        trig: analysis_pairs::triggers(&m.watch, &m.writes, n),
+        ahead: analysis_pairs::turned(&before, n),
+        clash: analysis_pairs::clashes(m),
+    };
+    let faulty = at_fault(relations.trig, n);
+    analysis_marks::filled(&relations, n, marks);
+    let failing = analysis_marks::count_failing(marks);
+    let first = analysis_marks::first_failing(&relations, marks);
     Summary {
-        cleared: (faulty == 0) & (c == 0),
-        faulty: faulty,
-        failing: c,
-        first: f.first,
-        second: f.second,
-        culprit: f.culprit,
-        other: f.other,
+        cleared: faulty == 0 && failing == 0,
+        faulty,
+        failing,
+        first,
     }
 }
 
-// The step bound of a set of rules: it asks who may trigger whom, and no more.
-pub fn bound(n: usize, watch: &[u32; 32], writes: &[u32; 32], set: u32) -> Bound
+// The step bound of a set of rules: it asks who may trigger whom, and no more, so two rows and not Masks.
+pub fn bound(n: usize, watch: &[u32; 32], writes: &[u32; 32], set: u32) -> Result<u32, Refusal>
     requires { Orderly (triggering n watch.now writes.now) }
-    ensures { Bounded (triggering n watch.now writes.now) set result }
+    ensures { Bounded (triggering n watch.now writes.now) set (bound_of result) }
 {
     if mask::beyond(set, n) {
-        return Bound {
-            number: 11,
-            place: 255,
-            bound: 0,
-        };
+        return Err(Refusal::Unfit);
     }
     let trig = analysis_pairs::triggers(watch, writes, n);
-    if at_fault(&trig, n) != 0 {
-        return Bound {
-            number: 17,
-            place: 255,
-            bound: 0,
-        };
+    if at_fault(trig, n) != 0 {
+        return Err(Refusal::Endless);
     }
     let w = analysis_weights::weights(&trig, n);
-    let t = analysis_weights::total(&w, set);
-    Bound {
-        number: 0,
-        place: 255,
-        bound: t,
-    }
+    Ok(analysis_weights::total(&w, set))
 }

@@ -1,17 +1,15 @@
 -- A relation of numbers below 32 as a row of masks: it is read back from the row, and only one row has it.
-use mathlib.Core.Path.{◌≡◌, sym, ap, ◌∙◌, subst}
+use mathlib.Core.Path.{◌≡◌, sym, ap, ◌∙◌}
 use mathlib.Core.Logic.{⊎_elim}
 use mathlib.Core.Bool.{Bool, false}
 use mathlib.Core.List.{List}
 use Prim.Native.Nat.{ℕ, ◌^◌, ◌≤◌, ◌<◌}
-use native.Mathlib.Nat.{le_trans}
-use lib.ListN.{length, get_or, replicate, length-replicate, get_or-replicate, get_or-eq_default}
+use lib.ListN.{length, get_or, get_or-eq_default}
 use lib.Pow.{pow_pos}
 use lib.Seq.{ext_get_or}
 use Rattle.mask.proofs.SearchLaws.{lt-or_ge}
 use Rattle.mask.specs.Mask.{has, mask_of}
 use Rattle.mask.proofs.BitsLaws.{has-zero, has-high}
-use Rattle.mask.specs.MaskInner.{Upto}
 use Rattle.mask.proofs.LoopsLaws.{picked_all, mask_of_picked, mask_of-lt, mask_of-unique}
 use Rattle.graph.specs.GraphInner.{Rows}
 use Rattle.rule.specs.Fill.{upto}
@@ -67,13 +65,15 @@ rows_only f t e h =
     let l' : r < 32 = rw e at l in
     mask_of-unique 32 (f r) (get_or t r 0) (h r l').0 (h r l').1 ∙ sym (rows_at f r l'))
 
--- zeros of which the first k are filled with these masks are the row, where it is of numbers below k
-pub rows-by : (f : ℕ → ℕ → Bool) (n : ℕ) → Among n f → (P : ℕ → ℕ → Type 0) → ((r v : ℕ) → r < 32 → P r v → Row f r v)
-    → (k : ℕ) (t : List ℕ) → n ≤ k → Upto P (replicate 32 0) k t → t ≡ masks_by f
-rows-by f n w P is k t h u =
-    rows_only f t (u.len ∙ length-replicate {A = ℕ} 32 0) (λ r l.
-    ⊎_elim (λ m. is r (get_or t r 0) l (u.done r m))
-    (λ m.
-    subst (Row f r) (sym (u.rest r m ∙ get_or-replicate {A = ℕ} 32 r 0 0 l))
-    (pow_pos 32, λ s b. has-zero s ∙ sym (w.from r s (le_trans h m))))
-    (lt-or_ge r k))
+-- a row whose masks below n are these, and that has no others, is the row of a relation of numbers below n
+pub row_is : (f : ℕ → ℕ → Bool) (n : ℕ) → Among n f → (t : List ℕ) → length t ≡ 32 → ((r : ℕ) → get_or t r 0 < 2 ^ 32)
+    → ((r : ℕ) → r < n → r < 32 → (s : ℕ) → s < 32 → has (get_or t r 0) s ≡ f r s) → ((r : ℕ) → n ≤ r → get_or t r 0 ≡ 0) → t ≡ masks_by f
+row_is f n w t e fits h out =
+    rows_only f t e (λ r l. (
+      fits r,
+      λ s k.
+          ⊎_elim
+          (λ m. h r m l s k)
+          (λ m. ap (λ (x : ℕ). has x s) (out r m) ∙ has-zero s ∙ sym (w.from r s m))
+          (lt-or_ge r n),
+    ))

@@ -1,14 +1,12 @@
 -- A row of masks turned round: who is named by whom.
-use mathlib.Core.Path.{◌≡◌, refl, sym, ap, ap₂, ◌∙◌, subst}
+use mathlib.Core.Path.{◌≡◌, sym, ap, ◌∙◌}
 use mathlib.Core.Logic.{⊎_elim}
-use mathlib.Core.Bool.{Bool, true, ◌&&◌, and_comm}
+use mathlib.Core.Bool.{Bool, ◌&&◌, and_comm}
 use mathlib.Core.List.{List}
 use Prim.Native.Nat.{ℕ, ◌<◌, ◌^◌}
-use lib.Dec.{eqb}
 use lib.ListN.{get_or}
-use borrow.Author.Tests.{eq-eqb, eqb-true}
 use Rattle.mask.specs.Search.{some}
-use Rattle.mask.proofs.SearchLaws.{Found, some_same, some_intro, some-elim, same_test, and_true_both, lt-or_ge}
+use Rattle.mask.proofs.SearchLaws.{some_same, lt-or_ge}
 use Rattle.mask.specs.Mask.{has, meet}
 use Rattle.mask.proofs.MaskLaws.{meet-zero}
 use Rattle.mask.proofs.BitsLaws.{has-high}
@@ -18,17 +16,6 @@ use Rattle.analysis_pairs.proofs.RowsLaws.{rows-within, rows-past}
 pub turned-edge : (rows : List ℕ) (r s : ℕ) → r < 32 → s < 32 → edge (turned_of rows) s r ≡ edge rows r s
 unfolding turned_of
 turned-edge rows r s lr ls = rows-within (λ s r. edge rows r s) s r ls lr
-
--- meeting the set of s alone is naming s
-pub meet_one : (m b s : ℕ) → s < 32 → ((k : ℕ) → has b k ≡ eqb k s) → meet m b ≡ has m s
-unfolding meet
-meet_one m b s l h =
-    same_test (some 32 (λ i. has m i && has b i)) (has m s)
-    (λ e.
-    let w : Found 32 (λ i. has m i && has b i) = some-elim 32 (λ i. has m i && has b i) e in
-    let p = and_true_both (has m w.at) (has b w.at) w.is in
-    subst (λ (x : ℕ). has m x ≡ true) (eqb-true w.at s (sym (h w.at) ∙ p.1)) p.0)
-    (λ e. some_intro 32 (λ i. has m i && has b i) s l (ap₂ ◌&&◌ e (h s ∙ eq-eqb s s refl)))
 
 -- ---- what the rows that b names have together is who, turned round, names one of b
 

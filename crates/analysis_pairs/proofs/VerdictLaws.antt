@@ -12,13 +12,21 @@ use Rattle.mask.proofs.SearchLaws.{Found, some_intro, some-elim, and_true_both, 
 use Rattle.mask.specs.Mask.{has, meet}
 use Rattle.mask.specs.MaskInner.{lowest}
 use Rattle.mask.proofs.BitsLaws.{has-lt}
+use Rattle.mask.specs.Search.{some}
+use Rattle.analysis_pairs.proofs.TurnedLaws.{mutual_met}
 use Rattle.mask.proofs.MaskLaws.{lowest-is}
 use Rattle.analysis_pairs.specs.Rules.{R1, R2, Passes, Culprits}
-use Rattle.analysis_pairs.specs.AnalysisPairsInner.{Judged, edge, row_rules, Grew}
+use Rattle.analysis_pairs.specs.AnalysisPairsInner.{Judged, edge, row_rules, Grew, Mutual}
 
 -- whether r, a rule of a, does not commute with some rule of b
 unfoldable pub guilty : List ℕ → ℕ → ℕ → ℕ → Bool
 guilty clash a b r = has a r && meet (get_or clash r 0) b
+
+-- the rules of a, cut down to those that some rule of b clashes with
+pub guilty_met : {clash : List ℕ} → Mutual clash → (a b g p : ℕ) → ((r : ℕ) → has g r ≡ some 32 (λ x. has b x && edge clash x r))
+    → ((r : ℕ) → has p r ≡ (has a r && has g r)) → (r : ℕ) → r < 32 → has p r ≡ guilty clash a b r
+unfolding guilty
+guilty_met m a b g p h q r l = q r ∙ ap (λ (x : Bool). has a r && x) (h r ∙ mutual_met m b r)
 
 lowest-le : (m s : ℕ) → has m s ≡ true → lowest m ≤ s
 lowest-le m s e =

@@ -1,7 +1,8 @@
 -- What only contracts of inner functions of `analysis_pairs` cite.
-use Rattle.std.specs.Prelude.{◌≡◌, Bool, true, false, not, ◌&&◌, ◌||◌, List, [], ℕ, ◌≤◌, eqb, get_or, ◌↔◌}
+use Rattle.std.specs.Prelude.{◌≡◌, Bool, true, false, not, ◌&&◌, ◌||◌, List, [], ℕ, ◌≤◌, eqb, get_or, ◌↔◌, Option, MatchOption}
 use Rattle.std.specs.Int.Bits.{bit_or}
 use Rattle.mask.specs.Mask.{meet, has}
+use Rattle.analysis_pairs.specs.declared.Culprits as Found
 use Rattle.analysis_pairs.specs.declared.Masks.{Masks}
 use Rattle.analysis_pairs.specs.RuleMasks.{commute, triggers, masks_by}
 use Rattle.mask.specs.Search.{some}
@@ -49,10 +50,6 @@ triggers_in watch writes = triggers (triggering 0 watch writes)
 unfoldable pub clashes : Masks → List ℕ
 clashes m = masks_by (λ r s. not (commute m r s))
 
--- who does not commute with whom: their number and their priorities are not asked
-abbrev pub clashes_in : List ℕ → List ℕ → List ℕ → List ℕ
-clashes_in watch reads writes = clashes (masks_in 0 watch reads writes [])
-
 abbrev pub row_rules : List ℕ → List ℕ → List ℕ → Rules
 row_rules trig before clash = record { may = edge trig; before = Edge before; commute = λ r s. not (edge clash r s) }
 
@@ -60,6 +57,10 @@ row_rules trig before clash = record { may = edge trig; before = Edge before; co
 pub record Judged (b : Rules) (i j : ℕ) (fails : Bool) (r s : ℕ) : Type 0 where
   pub passing : fails ≡ false → Passes b i j × (r ≡ 0) × (s ≡ 0)
   pub failing : fails ≡ true → Culprits b i j r s
+
+-- the same of an answer: none where the pair passes, or the culprits
+abbrev pub JudgedAs : Rules → ℕ → ℕ → Option Found.Culprits → Type 0
+JudgedAs b i j v = MatchOption v (Passes b i j) (λ w. Culprits b i j w.first w.second)
 
 -- a relation of numbers below n only
 pub record Among (n : ℕ) (f : ℕ → ℕ → Bool) : Type 0 where

@@ -12,14 +12,14 @@ use lib.Dec.{eqb}
 use lib.ListN.{get_or, set, length, replicate, length-set}
 use lib.Pow.{pow_pos, pow_mono}
 use lib.Seq.{get_or-set_same, get_or-set_other}
-use borrow.Author.Tests.{eq-eqb, ne_eqb}
+use borrow.Author.Tests.{eq-eqb, ne_eqb, not-true}
 use Rattle.mask.specs.Search.{count}
 use Rattle.mask.proofs.SearchLaws.{Found, some-elim, some_false, and_true_both, count-max, count-drop}
 use Rattle.mask.specs.Mask.{has, meet}
 use Rattle.mask.proofs.BitsLaws.{has-lt}
 use Rattle.graph.specs.GraphInner.{Halts, halts}
 use Rattle.analysis_weights.specs.Weight.{total}
-use Rattle.analysis_weights.specs.AnalysisWeightsInner.{sum_below, weight_in, ReadyRule, Headroom, Weighable, Weighed}
+use Rattle.analysis_weights.specs.AnalysisWeightsInner.{sum_below, weight_in, ready, Headroom, Weighable, Weighed}
 use Rattle.analysis_weights.proofs.SumsLaws.{total-same, sum_below-set}
 
 -- ---- room
@@ -63,13 +63,18 @@ room_next w left left' i v h l e r =
     (le_of_eq (twice (sum_below 32 (weight_in w) + 1) k ∙ ap (λ (x : ℕ). (sum_below 32 (weight_in w) + 1) * 2 ^ x) (sym e))) r)
 
 -- ---- a rule that is ready halts; where none is ready, none of `left` halts
+
+met : (a m : Bool) → a ≡ true → (a && not m) ≡ false → m ≡ true
+met true true e h = refl
+met true false e h = absurd (false≢true (sym h))
+met false m e h = absurd (false≢true e)
+
 module _ {trig : List ℕ} {left : ℕ} (fl : left < 2 ^ 32) where
-  pub stuck : {r : ℕ} → ((x : ℕ) → x < 32 → has left x ≡ true → meet (get_or trig x 0) left ≡ true)
-      → Halts trig r → has left r ≡ true → ⊥
+  pub stuck : {r : ℕ} → ((x : ℕ) → x < 32 → ready trig left x ≡ false) → Halts trig r → has left r ≡ true → ⊥
   unfolding meet
   stuck h (halts {r = r} f) e =
       let w : Found 32 (λ s. has (get_or trig r 0) s && has left s) =
-      some-elim 32 (λ s. has (get_or trig r 0) s && has left s) (h r (has-lt 32 r fl e) e) in
+      some-elim 32 (λ s. has (get_or trig r 0) s && has left s) (met (has left r) (meet (get_or trig r 0) left) e (h r (has-lt 32 r fl e))) in
       let p : (has (get_or trig r 0) w.at ≡ true) × (has left w.at ≡ true) =
       and_true_both (has (get_or trig r 0) w.at) (has left w.at) w.is in
       stuck h (f w.at p.0) p.1
@@ -83,12 +88,12 @@ outside trig left r d s l e =
 
 -- ---- a call that weighs nothing
 
-pub weighed_none : (trig : List ℕ) (left : ℕ) (w : List ℕ) (r : ℕ) → left < 2 ^ 32 → 32 ≤ r → ReadyRule trig left r
+pub weighed_none : (trig : List ℕ) (left : ℕ) (w : List ℕ) → left < 2 ^ 32 → ((x : ℕ) → x < 32 → ready trig left x ≡ false)
     → Weighable trig left w → Weighed trig left w w
-weighed_none trig left w r fl l d a =
+weighed_none trig left w fl d a =
     record {
       size = refl;
-      weight = λ x e h. absurd (stuck fl (λ y m. d.passed y (le_trans m l)) h e);
+      weight = λ x e h. absurd (stuck fl d h e);
       endless = λ x h. refl;
       same = λ x e. refl;
       fits = room_fits w left a.room;
@@ -96,14 +101,17 @@ weighed_none trig left w r fl l d a =
 
 -- ---- a call that weighs r
 module _ (trig : List ℕ) (left left' : ℕ) (w : List ℕ) (r : ℕ) (lr : r < 32)
-    (d : ReadyRule trig left r) (a : Weighable trig left w)
+    (d : ready trig left r ≡ true) (a : Weighable trig left w)
     (hl : (k : ℕ) → has left' k ≡ (has left k && not (eqb k r))) where
+  taken : (has left r ≡ true) × (meet (get_or trig r 0) left ≡ false)
+  taken = let p = and_true_both (has left r) (not (meet (get_or trig r 0) left)) d in (p.0, not-true (meet (get_or trig r 0) left) p.1)
+
   lw : r < length w
   lw = omega (arith, a.size)
 
   ready-halts : Halts trig r
   ready-halts =
-      halts (λ s e. a.halted r s e (outside trig left r (d.taken lr).1 s (has-lt 32 s (a.rows r) e) e))
+      halts (λ s e. a.halted r s e (outside trig left r taken.1 s (has-lt 32 s (a.rows r) e) e))
 
   pub weighable_next : (v : ℕ) → v ≤ sum_below 32 (weight_in w) + 1 → count 32 (has left) ≡ suc (count 32 (has left'))
       → Weighable trig left' (set w r v)
@@ -140,7 +148,7 @@ module _ (trig : List ℕ) (left left' : ℕ) (w : List ℕ) (r : ℕ) (lr : r <
       }
     where
       ne : (x : ℕ) → has left x ≡ false → x ≢ r
-      ne x e z = false≢true (sym e ∙ ap (has left) z ∙ (d.taken lr).0)
+      ne x e z = false≢true (sym e ∙ ap (has left) z ∙ taken.0)
 
       kept : (x : ℕ) → x ≢ r → has left x ≡ false → weight_in v x ≡ weight_in w x
       kept x z e = u.same x (hl x ∙ ap (λ (b : Bool). b && not (eqb x r)) e) ∙ get_or-set_other w r x (t + 1) 0 z
@@ -148,7 +156,7 @@ module _ (trig : List ℕ) (left left' : ℕ) (w : List ℕ) (r : ℕ) (lr : r <
       sum : total 32 (get_or trig r 0) (weight_in w) ≡ total 32 (get_or trig r 0) (weight_in v)
       sum =
           total-same 32 (get_or trig r 0) (weight_in w) (weight_in v) (λ s m e.
-          let o : has left s ≡ false = outside trig left r (d.taken lr).1 s m e in sym (kept s (ne s o) o))
+          let o : has left s ≡ false = outside trig left r taken.1 s m e in sym (kept s (ne s o) o))
 
       here : weight_in v r ≡ 1 + total 32 (get_or trig r 0) (weight_in v)
       here =

@@ -1,15 +1,13 @@
 -- What only contracts of inner functions of `analysis_weights` cite.
-use Rattle.std.specs.Prelude.{◌≡◌, true, false, List, ℕ, zero, suc, ◌+◌, ◌*◌, ◌^◌, ◌≤◌, ◌<◌, get_or, length}
+use Rattle.std.specs.Prelude.{◌≡◌, Bool, true, false, not, ◌&&◌, List, ℕ, zero, suc, ◌+◌, ◌*◌, ◌^◌, ◌≤◌, ◌<◌, get_or, length}
 use Rattle.mask.specs.Search.{count}
 use Rattle.mask.specs.Mask.{has, meet}
 use Rattle.graph.specs.GraphInner.{Edge, Rows, Halts}
 use Rattle.analysis_weights.specs.Weight.{total}
 
--- r is the lowest rule of `left` that may trigger none of `left`, or 32
-pub record ReadyRule (trig : List ℕ) (left r : ℕ) : Type 0 where
-  pub taken : r < 32 → (has left r ≡ true) × (meet (get_or trig r 0) left ≡ false)
-  pub passed : (x : ℕ) → x < r → has left x ≡ true → meet (get_or trig x 0) left ≡ true
-  pub bound : r ≤ 32
+-- whether r, a rule of `left`, may trigger none of `left`
+abbrev pub ready : List ℕ → ℕ → ℕ → Bool
+ready trig left r = has left r && not (meet (get_or trig r 0) left)
 
 -- the sum of f over all the numbers below k
 unfoldable pub sum_below : ℕ → (ℕ → ℕ) → ℕ

@@ -10,7 +10,7 @@ use Rattle.rule.specs.Empty.{no_rule}
 use Rattle.rule.specs.Numbers.{not_zero}
 use Rattle.rule_read.specs.Parts.{rule_of}
 use Rattle.table.specs.Table.{Table, no_table, rule_at, precedes_of}
-use Rattle.table.specs.declared.Answer.{Answer}
+use Rattle.refusal.specs.Answer.{Answer}
 use Rattle.table.specs.Check.{answer, sizes_bad, number_at}
 use Rattle.table.specs.BodyStarts.{body_size, start_at}
 

@@ -53,6 +53,14 @@ length-padded s p n room l h =
     let e : length (take n (drop p s)) ≡ n = length-take-le n (drop p s) (omega (arith, length-drop p s)) in
     omega (arith, length-append (take n (drop p s)) (zero_bytes (room - n)), length-replicate {A = ℕ} (room - n) 0)
 
+-- the same of the bytes from p to e
+pub padded-part : (s : List ℕ) (p e n room : ℕ) → e ≡ p + n → e ≤ length s
+    → take (e - p) (drop p s) ++ zero_bytes (room - length (take (e - p) (drop p s))) ≡ padded s p n room
+padded-part s p e n room q h =
+    let w : e - p ≡ n = omega arith in
+    let l : length (take (e - p) (drop p s)) ≡ n = length-take-le (e - p) (drop p s) (omega (arith, length-drop p s)) ∙ w in
+    ap₂ (λ (k x : ℕ). take k (drop p s) ++ zero_bytes (room - x)) w l
+
 module _ (s : List ℕ) (b : Bytes s) (p t a m : ℕ) (room : Room s p t a m) where
   abbrev rule : Rule
   rule = rule_of s p t a m

@@ -1,6 +1,6 @@
 -- What reading a book gives, with the table as its bytes.
 use Rattle.std.specs.Prelude.{◌≡◌, List, ℕ}
-use Rattle.table.specs.declared.Answer.{Answer}
+use Rattle.refusal.specs.Answer.{Answer}
 use Rattle.table.specs.Memory.{table_bytes}
 use Rattle.book_judge.specs.Read.{Reading, told}
 

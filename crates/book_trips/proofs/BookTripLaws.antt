@@ -9,12 +9,12 @@ use Rattle.little.specs.EachByte.{Bytes}
 use Rattle.table.proofs.SoundLaws.{sound-by}
 use Rattle.table.specs.Table.{Table}
 use Rattle.table.specs.Memory.{HeldTable}
-use Rattle.table.specs.declared.Answer.{Answer}
+use Rattle.refusal.specs.Answer.{Answer}
 use Rattle.table.specs.Check.{check_of, Sound}
 use Rattle.book_judge.specs.Read.{Reading, table_in, read_of}
 use Rattle.book_judge.specs.BookJudgeInner.{taken}
 use Rattle.book_judge.proofs.ReadLaws.{read_done}
-use Rattle.book_write.specs.declared.Written.{Written}
+use Rattle.book_write.specs.Write.{Written}
 use Rattle.book_write.specs.Book.{book_of}
 use Rattle.book_write.specs.Write.{written, write_of}
 use Rattle.book_write.proofs.WriteLaws.{write_done, wrote}

@@ -24,7 +24,7 @@ use Rattle.rule.specs.Numbers.{not_zero}
 use Rattle.rule.proofs.NumbersLaws.{unclean}
 use Rattle.rule_read.specs.Parts.{rule_of}
 use Rattle.rule_write.specs.Pieces.{body_bytes}
-use Rattle.rule_write.proofs.RowsBytesLaws.{slots_are}
+use Rattle.rule.proofs.FillLaws.{slots_are}
 use Rattle.rule_write.proofs.ReadBackLaws.{rule-read}
 use Rattle.table.specs.Table.{Table, rule_at, precedes_of}
 use Rattle.table.specs.Memory.{HeldTable}

@@ -13,12 +13,20 @@ use Rattle.little.proofs.PutLaws.{put_next}
 use Rattle.table.specs.Table.{Table}
 use Rattle.table.specs.Check.{check_of}
 use Rattle.table.proofs.SoundLaws.{sound-by}
-use Rattle.book_write.specs.declared.Written.{Written}
 use Rattle.book_write.specs.Book.{book_of}
 use Rattle.book_parts.specs.BookPartsInner.{contents_bytes, bodies_bytes}
 use Rattle.book_parts.proofs.PartsLaws.{length-contents}
 use Rattle.book_write.proofs.BookLaws.{largest}
-use Rattle.book_write.specs.Write.{written, write_of, size_of}
+use Rattle.book_write.specs.Write.{Written, written, written_of, write_of, size_of}
+use Rattle.std.proofs.Common.{Result, Ok, Err}
+use Rattle.std.specs.Result.{result_unwrap_or}
+use Rattle.refusal.specs.declared.Refusal.{Refusal}
+use Rattle.refusal.proofs.RefusalLaws.{not_done, refusal_unique}
+
+-- the length beside a refusal is 0
+pub length_is : (r : Result ℕ Refusal) → result_unwrap_or r 0 ≡ (written_of r).length
+length_is (Ok n) = refl
+length_is (Err e) = refl
 
 module _ (t : Table) where
   pub size-refused : ((check_of t).number ≡ 0 → ⊥) → size_of t ≡ written (check_of t).number (check_of t).place 0
@@ -115,3 +123,10 @@ write-largest t d = go (ℕ_discrete (write_of t d).0.number 0)
     go : Dec ((write_of t d).0.number ≡ 0) → (write_of t d).0.length ≤ 9220
     go (yes e) = let w = wrote t d e in rw w.is (largest t (sound-by t w.checked))
     go (no ne) = omega (arith, (untouched t d ne).1)
+
+-- the paper's answer determines what size and write return
+pub written_determines : (a b : Result ℕ Refusal) → written_of a ≡ written_of b → a ≡ b
+written_determines (Ok n) (Ok m) e = ap (λ (n : ℕ). Ok n) (ap (λ (w : Written). w.length) e)
+written_determines (Ok n) (Err d) e = absurd (not_done d (sym (ap (λ (w : Written). w.number) e)))
+written_determines (Err d) (Ok n) e = absurd (not_done d (ap (λ (w : Written). w.number) e))
+written_determines (Err c) (Err d) e = ap Err (refusal_unique c d (ap (λ (w : Written). w.number) e) (ap (λ (w : Written). w.place) e))

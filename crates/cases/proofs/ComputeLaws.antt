@@ -15,7 +15,7 @@ use Rattle.analysis_pairs.specs.RuleMasks.{triggers}
 use Rattle.analysis_pairs.specs.AnalysisPairsInner.{clashes, edge}
 use Rattle.analysis_pairs.proofs.SettleLaws.{settle}
 use Rattle.analysis_pairs.proofs.VerdictLaws.{guilty}
-use Rattle.analysis_masks.specs.declared.Report.{Report}
+use Rattle.analysis_masks.specs.Report.{Report}
 use Rattle.analysis_marks.specs.AnalysisMarksInner.{Graphs}
 use Rattle.analysis_marks.specs.Marks.{fails_at}
 use Rattle.analysis_masks.proofs.AlikeLaws.{befores}

@@ -12,6 +12,7 @@ use lib.Pow.{pow_mono}
 use borrow.Author.Tests.{leb-true, leb-false, ltb-true, ltb-false}
 use Rattle.mask.specs.Search.{count, least}
 use Rattle.mask.proofs.SearchLaws.{least-is}
+use Rattle.mask.proofs.CountsLaws.{count_none}
 use Rattle.mask.specs.Mask.{has, mask_of}
 use Rattle.mask.specs.MaskInner.{lowest}
 use Rattle.mask.proofs.LoopsLaws.{picked_all, picked_every, mask_of_picked, mask_of-lt}
@@ -21,11 +22,12 @@ use Rattle.graph.proofs.GraphLaws.{leads-iff, leads-below}
 use Rattle.rule.proofs.FillLaws.{length-upto, get_or-upto}
 use Rattle.analysis_pairs.specs.declared.Masks.{Masks}
 use Rattle.analysis_pairs.specs.AnalysisPairsInner.{Judged, edge, row_rules}
+use Rattle.analysis_pairs.specs.Rules.{Passes, Culprits}
 use Rattle.analysis_pairs.proofs.RulesLaws.{fails-not-passes}
 use Rattle.analysis_pairs.specs.RuleMasks.{triggers}
 use Rattle.analysis_pairs.proofs.SettleLaws.{settle, Settled, settled}
 use Rattle.analysis_pairs.proofs.VerdictLaws.{guilty, judged-passing, judged-failing}
-use Rattle.analysis_masks.specs.declared.Report.{Report}
+use Rattle.analysis_masks.specs.Report.{Report}
 use Rattle.analysis_marks.specs.AnalysisMarksInner.{Graphs, graph_rules, Marks}
 use Rattle.analysis_masks.specs.AnalysisMasksInner.{Orderly}
 use Rattle.analysis_marks.specs.Index.{start, index}
@@ -36,7 +38,7 @@ use Rattle.analysis_masks.proofs.ReportLaws.{unique}
 use Rattle.analysis_marks.proofs.MarkingLaws.{Drawn}
 use Rattle.analysis_masks.proofs.AlikeLaws.{alike-rows, triggers-rows}
 use Rattle.analysis_masks.proofs.ReportingLaws.{faulty-iff, marks_of_lem, cleared-iff}
-use Rattle.analysis_marks.proofs.MarkedLaws.{marks_twos, first-none, first_some, first_alike}
+use Rattle.analysis_marks.proofs.MarkedLaws.{marks_twos, first_fails, first_some, first-of_none, first-of_some, first_alike}
 use Rattle.cases.proofs.ComputeLaws.{verdict, graphs_of, mark_of, locate, marks_of, first_failing, report_by, report_of}
 
 -- ---- a pair
@@ -162,10 +164,18 @@ module _ (g : Graphs) (rows : Rows 32 g.trig) where
       pick true e =
           let l : k < 496 = ltb-true k 496 e in
           let w : Located p k = locates k l in
-          first_some (graph_rules g) q p.0 p.1 k v.1 v.2 v.0 (marks_twos g q marks_are) refl l w.low w.high w.at
-          (judged p.0 p.1 (le_trans w.low (omega arith)) w.high)
+          let d : Judged (graph_rules g) p.0 p.1 v.0 v.1 v.2 = judged p.0 p.1 (le_trans w.low (omega arith)) w.high in
+          let failed = first_fails (marks_twos g q marks_are) l ((least-is 496 (fails_at q)).is l) w.low w.high w.at in
+          first-of_some (first_some refl w.low w.high w.at (culprits d failed v.0 refl))
+        where
+          culprits : Judged (graph_rules g) p.0 p.1 v.0 v.1 v.2 → (Passes (graph_rules g) p.0 p.1 → ⊥) → (b : Bool) → v.0 ≡ b
+              → Culprits (graph_rules g) p.0 p.1 v.1 v.2
+          culprits d failed true z = d.failing z
+          culprits d failed false z = absurd (failed (d.passing z).0)
       pick false e =
-          first-none (graph_rules g) q k refl (omega (arith, ltb-false k 496 e, (least-is 496 (fails_at q)).bound))
+          first-of_none
+          (count_none 496 (fails_at q)
+          (λ i l. (least-is 496 (fails_at q)).first i (le_trans l (ltb-false k 496 e))))
 
 -- ---- the whole report
 

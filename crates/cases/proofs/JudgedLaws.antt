@@ -14,8 +14,8 @@ use Rattle.graph.specs.Graph.{leads}
 use Rattle.analysis_weights.specs.Weight.{total, weight_of}
 use Rattle.analysis_pairs.specs.declared.Masks.{Masks}
 use Rattle.analysis_pairs.specs.RuleMasks.{may_trigger, commute}
-use Rattle.analysis_masks.specs.declared.Report.{Report}
-use Rattle.analysis_masks.specs.declared.Bound.{Bound}
+use Rattle.analysis_masks.specs.Report.{Report}
+use Rattle.analysis_masks.specs.Bound.{Bound}
 use Rattle.analysis_masks.specs.AnalysisMasksInner.{Orderly}
 use Rattle.analysis_masks.specs.Cleared.{Faulty}
 use Rattle.analysis_masks.specs.Report.{Reported}

@@ -25,7 +25,7 @@ use Rattle.analysis_weights.proofs.SumsLaws.{total-at}
 use Rattle.analysis_weights.proofs.WeightLaws.{falling_halts, total-weights}
 use Rattle.analysis_pairs.specs.declared.Masks.{Masks}
 use Rattle.analysis_pairs.specs.RuleMasks.{masks_from, may_trigger, masks_by, triggers}
-use Rattle.analysis_masks.specs.declared.Bound.{Bound}
+use Rattle.analysis_masks.specs.Bound.{Bound}
 use Rattle.analysis_masks.specs.Bound.{Bounded}
 
 abbrev pub staircase : Masks

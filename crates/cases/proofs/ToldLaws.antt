@@ -11,8 +11,8 @@ use Rattle.analysis_pairs.specs.declared.Masks.{Masks}
 use Rattle.table.specs.Table.{Table}
 use Rattle.table.specs.Check.{check_of}
 use Rattle.book_judge.specs.Read.{read_of}
-use Rattle.analysis_masks.specs.declared.Report.{Report}
-use Rattle.analysis_masks.specs.declared.Bound.{Bound}
+use Rattle.analysis_masks.specs.Report.{Report}
+use Rattle.analysis_masks.specs.Bound.{Bound}
 use Rattle.analysis_masks.specs.Report.{Reported}
 use Rattle.analysis_masks.specs.Bound.{Bounded}
 use Rattle.cases.proofs.ComputeLaws.{report_by}

@@ -5,11 +5,11 @@ use Rattle.table.specs.Table.{Table}
 use Rattle.book_judge.specs.Read.{read_of}
 use Rattle.rule_sums.specs.Sums.{scaled}
 use Rattle.machine_spec.specs.declared.State.{State}
-use Rattle.machine_spec.specs.declared.Moved.{Moved}
+use Rattle.machine_spec.specs.Step.{Moved}
 use Rattle.machine_spec.specs.State.{zeros}
 use Rattle.machine_spec.specs.Step.{moved, step_of, post_of}
 use Rattle.analysis_pairs.specs.RuleMasks.{commute}
-use Rattle.analysis_masks.specs.declared.Bound.{Bound}
+use Rattle.analysis_masks.specs.Bound.{Bound}
 use Rattle.analysis.specs.TableMasks.{masks_of}
 use Rattle.analysis.specs.Says.{BoundSays}
 use Rattle.report_text.specs.Text.{letters}

@@ -6,7 +6,7 @@ use mathlib.Core.List.{List, ◌∷◌}
 use Prim.Native.Nat.{ℕ}
 use lib.IntN.{ℤ}
 use Rattle.table.specs.Table.{Table}
-use Rattle.analysis_masks.specs.declared.Report.{Report}
+use Rattle.analysis_masks.specs.Report.{Report}
 use Rattle.analysis.specs.Says.{ReportSays}
 use Rattle.machine_spec.specs.declared.State.{State}
 use Rattle.machine_spec.specs.State.{Fits}

@@ -17,19 +17,19 @@ use Rattle.mask.specs.MaskInner.{lowest}
 use Rattle.mask.proofs.BitsLaws.{has-zero}
 use Rattle.mask.proofs.MaskLaws.{ext_iff, lowest-has}
 use Rattle.table.specs.Table.{Table}
-use Rattle.table.specs.declared.Answer.{Answer}
+use Rattle.refusal.specs.Answer.{Answer}
 use Rattle.table.specs.Check.{check_of, Sound}
 use Rattle.table.proofs.SoundLaws.{parts, sound-by}
 use Rattle.analysis_weights.specs.Weight.{weight_of}
 use Rattle.analysis_pairs.specs.RuleMasks.{triggers}
-use Rattle.analysis_masks.specs.declared.Report.{Report}
+use Rattle.analysis_masks.specs.Report.{Report}
 use Rattle.analysis_masks.specs.Cleared.{Faulty, Cleared}
 use Rattle.analysis_masks.specs.Report.{Reported}
 use Rattle.analysis.specs.TableMasks.{masks_of}
 use Rattle.analysis.specs.Says.{ReportSays}
 use Rattle.rule_sums.specs.Sums.{at}
 use Rattle.machine_spec.specs.declared.State.{State}
-use Rattle.machine_spec.specs.declared.Moved.{Moved}
+use Rattle.machine_spec.specs.Step.{Moved}
 use Rattle.machine_spec.specs.State.{Fits, waits}
 use Rattle.machine_spec.specs.Step.{step_of}
 use Rattle.mask.proofs.MaskBelowLaws.{below-beyond}

@@ -28,7 +28,7 @@ use Rattle.rule_act.proofs.AmountsLaws.{Agree, stored_at, stored_else, value_sam
 use Rattle.rule_sums.proofs.PenceLaws.{alike, same}
 use Rattle.rule.proofs.CellsBelowLaws.{reads-below, targets-below}
 use Rattle.machine_spec.specs.declared.State.{State}
-use Rattle.machine_spec.specs.declared.Moved.{Moved}
+use Rattle.machine_spec.specs.Step.{Moved}
 use Rattle.machine_spec.specs.State.{Fits, waits}
 use Rattle.machine_spec.proofs.HeldBackLaws.{eligible-by}
 use Rattle.machine_spec.specs.Step.{step_of, effect, moved, wakes}

@@ -16,7 +16,7 @@ use Rattle.mask.specs.Mask.{has}
 use Rattle.mask.proofs.BitsLaws.{has-zero}
 use Rattle.rule.specs.Uses.{writes}
 use Rattle.table.specs.Table.{Table, rule_at}
-use Rattle.analysis_masks.specs.declared.Report.{Report}
+use Rattle.analysis_masks.specs.Report.{Report}
 use Rattle.analysis_masks.specs.Cleared.{Cleared}
 use Rattle.analysis_masks.proofs.ClearedLaws.{no_priorities-commute}
 use Rattle.analysis.specs.TableMasks.{masks_of}
@@ -24,7 +24,7 @@ use Rattle.analysis.proofs.SetsLaws.{commute-writes}
 use Rattle.analysis.specs.Says.{ReportSays}
 use Rattle.rule_sums.specs.Sums.{at}
 use Rattle.machine_spec.specs.declared.State.{State}
-use Rattle.machine_spec.specs.declared.Moved.{Moved}
+use Rattle.machine_spec.specs.Step.{Moved}
 use Rattle.machine_spec.specs.State.{waits}
 use Rattle.machine_spec.specs.Step.{step_of, moved}
 use Rattle.machine_spec.proofs.StepLaws.{Stepping, step-done}

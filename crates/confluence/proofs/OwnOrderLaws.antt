@@ -9,11 +9,11 @@ use native.Mathlib.Omega.{arith}
 use lib.ListN.{length, length-append}
 use Rattle.table.specs.Table.{Table}
 use Rattle.table.specs.Check.{Sound}
-use Rattle.analysis_masks.specs.declared.Report.{Report}
+use Rattle.analysis_masks.specs.Report.{Report}
 use Rattle.analysis.specs.Says.{ReportSays}
 use Rattle.machine_spec.specs.declared.State.{State}
-use Rattle.machine_spec.specs.declared.Moved.{Moved}
-use Rattle.machine_spec.specs.declared.Ran.{Ran}
+use Rattle.machine_spec.specs.Step.{Moved}
+use Rattle.machine_spec.specs.Run.{Ran}
 use Rattle.machine_spec.specs.State.{Fits, lowest_of}
 use Rattle.machine_spec.specs.Step.{step_of}
 use Rattle.machine_spec.specs.Run.{run_of, runs}

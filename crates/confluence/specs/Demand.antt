@@ -6,11 +6,11 @@ use Rattle.std.specs.Prelude.{◌≡◌, List, [], ◌∷◌, ◌++◌, ℕ, ◌
 use Rattle.table.specs.Table.{Table, rule_at}
 use Rattle.analysis_weights.specs.Weight.{total, weight_of}
 use Rattle.analysis_pairs.specs.RuleMasks.{triggers}
-use Rattle.analysis_masks.specs.declared.Bound.{Bound}
+use Rattle.analysis_masks.specs.Bound.{Bound}
 use Rattle.analysis.specs.TableMasks.{masks_of}
 use Rattle.analysis.specs.Says.{BoundSays}
 use Rattle.machine_spec.specs.declared.State.{State}
-use Rattle.machine_spec.specs.declared.Ran.{Ran}
+use Rattle.machine_spec.specs.Run.{Ran}
 use Rattle.machine_spec.specs.Step.{step_of, post_of}
 
 -- the precedes masks have 32 bits, as in every table that memory holds

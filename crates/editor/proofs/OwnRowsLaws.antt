@@ -12,13 +12,13 @@ use Rattle.mask.proofs.MaskLaws.{beyond_law}
 use Rattle.rule.proofs.FillLaws.{upto-same, length-upto, get_or-upto}
 use Rattle.rule.specs.Fill.{upto}
 use Rattle.table.specs.Table.{Table, rule_at, precedes_of}
-use Rattle.table.specs.declared.Answer.{Answer}
+use Rattle.refusal.specs.Answer.{Answer}
 use Rattle.graph.specs.Graph.{cyclic}
 use Rattle.table.specs.Check.{done, Sound}
 use Rattle.table.proofs.SoundLaws.{parts}
 use Rattle.table.proofs.BeforeLaws.{precedes-rows}
 use Rattle.analysis_pairs.specs.declared.Masks.{Masks}
-use Rattle.analysis_masks.specs.declared.Report.{Report}
+use Rattle.analysis_masks.specs.Report.{Report}
 use Rattle.analysis_masks.proofs.ReportLaws.{unique}
 use Rattle.analysis.specs.TableMasks.{masks_of}
 use Rattle.analysis.specs.Says.{ReportSays}

@@ -3,9 +3,9 @@ use Rattle.std.specs.Prelude.{List, ℕ, get_or, length}
 use Rattle.table.specs.Check.{Checked}
 use Rattle.analysis_pairs.specs.declared.Masks.{Masks}
 use Rattle.analysis_pairs.specs.RuleMasks.{masks_from}
-use Rattle.analysis_masks.specs.declared.Report.{Report}
+use Rattle.analysis_masks.specs.Report.{Report}
 use Rattle.analysis_masks.specs.Report.{Reported}
-use Rattle.analysis.specs.Says.{refused_report}
+use Rattle.analysis_masks.specs.Report.{refused_report}
 use Rattle.editor.specs.declared.Record.{Record}
 use Rattle.editor_check.specs.RowNumbers.{check_rows}
 

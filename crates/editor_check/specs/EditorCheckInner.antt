@@ -1,14 +1,9 @@
 -- What only contracts of inner functions of `editor_check` cite.
 use Rattle.std.specs.Prelude.{◌≡◌, List, [], ℕ, ◌^◌, ◌<◌, get_or}
-use Rattle.table.specs.declared.Answer.{Answer}
+use Rattle.refusal.specs.Answer.{Answer}
 use Rattle.analysis_pairs.specs.declared.Masks.{Masks}
 use Rattle.analysis_pairs.specs.AnalysisPairsInner.{masks_in}
-use Rattle.editor_check.specs.RowNumbers.{first_beyond, check_rows}
-
--- the masks of the records before it name records of the row only
-pub record FirstBeyond (m : Masks) (r : ℕ) : Type 0 where
-  pub is : r ≡ first_beyond m
-  pub named : (i : ℕ) → i < r → get_or m.precedes i 0 < 2 ^ m.n
+use Rattle.editor_check.specs.RowNumbers.{check_rows}
 
 -- the first number that applies, and where none does, every mask names records of the row only
 pub record RowChecked (m : Masks) (a : Answer) : Type 0 where

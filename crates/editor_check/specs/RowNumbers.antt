@@ -4,7 +4,7 @@ use Rattle.mask.specs.First.{first_of}
 use Rattle.mask.specs.Search.{least}
 use Rattle.mask.specs.Mask.{beyond}
 use Rattle.graph.specs.Graph.{cyclic}
-use Rattle.table.specs.declared.Answer.{Answer}
+use Rattle.refusal.specs.Answer.{Answer}
 use Rattle.table.specs.Check.{answer, done}
 use Rattle.analysis_pairs.specs.declared.Masks.{Masks}
 

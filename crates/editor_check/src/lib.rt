@@ -1,50 +1,34 @@
 // The numbers 3, 6 and 10 of a row of n records: they ask for its precedes masks alone.
 #![tactic(auto)]
 
-ghost use Rattle.std.specs.Prelude.{◌≤◌};
-ghost use Rattle.editor_check.specs.EditorCheckInner.{only_precedes, FirstBeyond, RowChecked};
+ghost use Rattle.std.specs.Prelude.{◌≡◌, ◌≤◌, get_or};
+ghost use Rattle.mask.specs.Search.{least_at};
+ghost use Rattle.mask.specs.Mask.{beyond};
+ghost use Rattle.refusal.specs.RefusalNumbers.{answer_of};
+ghost use Rattle.editor_check.specs.EditorCheckInner.{only_precedes, RowChecked};
 
-use table::Answer;
+use refusal::{Fault, Refusal};
 
-// 6: the first record with a precedes bit beyond the row, or the number of records.
-fn first_beyond(n: usize, precedes: &[u32; 32]) -> usize
+// 6: the first record with a precedes bit beyond the row.
+fn first_beyond(n: usize, precedes: &[u32; 32]) -> Option<usize>
     requires { n ≤ 32 }
-    ensures { FirstBeyond (only_precedes n precedes.now) result }
+    ensures { result ≡ least_at n (λ i. beyond (get_or precedes.now i 0) n) }
 {
-    for i in 0..n {
-        if mask::beyond(mask::bits(precedes[i]), n) {
-            return i;
-        }
-    }
-    n
+    precedes[..n].iter().position(|m| mask::beyond(*m, n))
 }
 
 // The first number that applies, with its place.
-pub fn check(n: usize, precedes: &[u32; 32]) -> Answer
-    ensures { RowChecked (only_precedes n precedes.now) result }
+pub fn check(n: usize, precedes: &[u32; 32]) -> Result<(), Refusal>
+    ensures { RowChecked (only_precedes n precedes.now) (answer_of result) }
 {
     if 32 < n {
-        return Answer {
-            number: 3,
-            place: 255,
-        };
+        return Err(Refusal::Sizes);
     }
-    let i = first_beyond(n, precedes);
-    if i < n {
-        return Answer {
-            number: 6,
-            place: i as u8,
-        };
+    if let Some(i) = first_beyond(n, precedes) {
+        return Err(Refusal::Rule(Fault::Cells, i as u8));
     }
-    let rows = *precedes;
-    if table::row_cyclic(rows, n) {
-        return Answer {
-            number: 10,
-            place: 255,
-        };
+    if table::row_cyclic(*precedes, n) {
+        return Err(Refusal::Cycle);
     }
-    Answer {
-        number: 0,
-        place: 255,
-    }
+    Ok(())
 }

@@ -12,10 +12,10 @@ fn through(q: &mut [u32; 32], k: usize)
     ensures { Through q.old k q.new }
 {
     let row = q[k];
-    for r in 0..32 {
-        let old = q[r];
-        let more = if mask::has(old, k) { row } else { 0 };
-        q[r] = old | more;
+    for m in q.iter_mut() {
+        if mask::has(*m, k) {
+            *m |= row;
+        }
     }
 }
 
@@ -25,6 +25,7 @@ pub fn closure(rows: [u32; 32], n: usize) -> [u32; 32]
     ensures { (r s : ℕ) → has (get_or result r 0) s ≡ leads rows n r s }
 {
     let mut q = rows;
+    // k is a rule, not a place in a row: a fold over 0..n is no plainer.
     for k in 0..n {
         through(&mut q, k);
     }
@@ -35,11 +36,5 @@ pub fn closure(rows: [u32; 32], n: usize) -> [u32; 32]
 pub fn loops(rows: [u32; 32]) -> u32
     ensures { (r : ℕ) → has result r ≡ has (get_or rows r 0) r }
 {
-    let mut a = 0;
-    for x in 0..32 {
-        if mask::has(rows[x], x) {
-            a = mask::with(a, x);
-        }
-    }
-    a
+    mask::such(|x| mask::has(rows[x], x))
 }

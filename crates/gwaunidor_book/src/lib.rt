@@ -15,15 +15,15 @@ pub fn read(book: &[u8], table: &mut [u8; 9092]) -> u32
     ensures table_after { table.new ≡ table_bytes (read_of book.now).table }
 {
     let read = book_read::read(book, table);
-    layout_code::code(read.number, read.place)
+    layout_code::answer(&read)
 }
 
 // The checks that every call on a table makes first.
 pub fn check(table: &[u8; 9092]) -> u32
     ensures { result ≡ code_of (check_of (table_from table.now)).number (check_of (table_from table.now)).place }
 {
-    let a = table::check(table);
-    layout_code::code(a.number, a.place)
+    let checked = table::check(table);
+    layout_code::answer(&checked)
 }
 
 // Writes a table as a book.
@@ -32,8 +32,8 @@ pub fn write(table: &[u8; 9092], out: &mut [u8], written: &mut u32) -> u32
     ensures out_after { out.new ≡ (write_of (table_from table.now) out.old).1 }
 {
     let w = book_write::write(table, out);
-    *written = w.length as u32;
-    layout_code::code(w.number, w.place)
+    *written = w.unwrap_or(0) as u32;
+    layout_code::answer(&w)
 }
 
 // How long a table's book is.
@@ -41,6 +41,6 @@ pub fn size(table: &[u8; 9092], size: &mut u32) -> u32
     ensures { (result, size.new) ≡ size_out (size_of (table_from table.now)) }
 {
     let sized = book_write::size(table);
-    *size = sized.length as u32;
-    layout_code::code(sized.number, sized.place)
+    *size = sized.unwrap_or(0) as u32;
+    layout_code::answer(&sized)
 }

@@ -1,8 +1,8 @@
 -- Of each answer, the code and what is left beside it.
 use Rattle.std.specs.Prelude.{◌≡◌, List, ℕ}
-use Rattle.analysis_masks.specs.declared.Report.{Report}
-use Rattle.analysis_masks.specs.declared.Bound.{Bound}
-use Rattle.report_lines.specs.declared.Printed.{Printed}
+use Rattle.analysis_masks.specs.Report.{Report}
+use Rattle.analysis_masks.specs.Bound.{Bound}
+use Rattle.report_lines.specs.Lines.{Printed}
 use Rattle.layout_report.specs.Layout.{report_bytes}
 use Rattle.layout_code.specs.Code.{code_of}
 

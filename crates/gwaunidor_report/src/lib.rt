@@ -13,8 +13,8 @@ pub fn report(table: &[u8; 9092], out: &mut [u8; 512]) -> u32
     ensures { Crosses (ReportSays (table_from table.now)) report_out (result, out.new) }
 {
     let judged = analysis::report(table);
-    layout_report::store_report(judged, out);
-    layout_code::code(judged.number, judged.place)
+    layout_report::store_report(&judged, out);
+    layout_code::answer(&judged)
 }
 
 // The step bound of a set of rules.
@@ -22,8 +22,8 @@ pub fn bound(table: &[u8; 9092], set: u32, bound: &mut u32) -> u32
     ensures { Crosses (BoundSays (table_from table.now) set) bound_out (result, bound.new) }
 {
     let b = analysis::bound(table, set);
-    *bound = b.bound;
-    layout_code::code(b.number, b.place)
+    *bound = b.unwrap_or(0);
+    layout_code::answer(&b)
 }
 
 // The report program's lines for a book.
@@ -32,7 +32,7 @@ pub fn lines(book: &[u8], out: &mut [u8], written: &mut u32) -> u32
 {
     let printed = report_lines::lines(book, out);
     *written = printed.length as u32;
-    layout_code::code(printed.number, printed.place)
+    layout_code::answer(&printed.book)
 }
 
 // The report on the editor's row of records.
@@ -40,6 +40,6 @@ pub fn rows(rows: &[u8], out: &mut [u8; 512]) -> u32
     ensures { Crosses (RowsSay (row_masks (rows_in rows.now))) report_out (result, out.new) }
 {
     let row = editor::report_of_bytes(rows);
-    layout_report::store_report(row, out);
-    layout_code::code(row.number, row.place)
+    layout_report::store_report(&row, out);
+    layout_code::answer(&row)
 }

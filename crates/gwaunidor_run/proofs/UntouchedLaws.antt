@@ -37,3 +37,7 @@ zeros-bytes = refl
 pub fresh-zeros : (t : Table) (amounts : List ℤ) → ((fresh_of t amounts).number ≡ 0 → ⊥)
     → state_bytes (fresh_of t amounts).state ≡ replicate 264 0
 fresh-zeros t amounts h = ap state_bytes (fresh_kept t amounts h) ∙ zeros-bytes
+
+-- by a bare name, for the check to apply
+pub same_bytes : (b : List ℕ) → Bytes b → length b ≡ 264 → state_bytes (state_from b) ≡ b
+same_bytes b small size = state-written b small size

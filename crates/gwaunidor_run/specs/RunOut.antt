@@ -1,7 +1,7 @@
 -- Of each answer, the code and what is left beside it.
 use Rattle.std.specs.Prelude.{List, ℕ}
-use Rattle.machine_spec.specs.declared.Moved.{Moved}
-use Rattle.machine_spec.specs.declared.Ran.{Ran}
+use Rattle.machine_spec.specs.Step.{Moved}
+use Rattle.machine_spec.specs.Run.{Ran}
 use Rattle.layout_state.specs.States.{state_bytes}
 use Rattle.layout_code.specs.Code.{code_of}
 

@@ -2,7 +2,7 @@
 -- first pair, 12 and 13 culprits, 14 and 15 zero, 16 to 511 the marks".
 use Rattle.std.specs.Prelude.{cond, List, [], ◌∷◌, ◌++◌, ℕ}
 use Rattle.little.specs.Bytes.{u16_bytes, u32_bytes}
-use Rattle.analysis_masks.specs.declared.Report.{Report}
+use Rattle.analysis_masks.specs.Report.{Report}
 
 -- bytes 0 to 15
 unfoldable pub summary_bytes : Report → List ℕ

@@ -1,37 +1,42 @@
 // A report as the 512 bytes that cross the border.
 #![tactic(auto)]
 
-ghost use Rattle.std.specs.Prelude.{◌≡◌, cond, ◌≤◌, length};
-ghost use Rattle.little.specs.Put.{put};
+ghost use Rattle.std.specs.Prelude.{◌≡◌, []};
+ghost use Rattle.analysis_masks.specs.Found.{report_in, report_of};
 ghost use Rattle.layout_report.specs.Layout.{summary_bytes, report_bytes};
 
-use analysis_masks::Report;
-
-fn flag(b: bool) -> u8
-    ensures { result ≡ cond b 1 0 }
-{
-    if b {
-        return 1;
-    }
-    0
-}
+use analysis_masks::{Findings, Summary};
+use refusal::Refusal;
 
 // All but the marks.
-fn put_head(out: &mut [u8], r: Report)
-    requires { 16 ≤ length out.old }
-    ensures { out.new ≡ put out.old 0 (summary_bytes r) }
+fn head(v: &Summary) -> [u8; 16]
+    ensures { result ≡ summary_bytes (report_in v.now []) }
 {
-    little::put_4(out, 0, r.number, r.place, flag(r.cleared), 0);
-    little::put_u32(out, 4, r.faulty);
-    little::put_u16(out, 8, r.failing);
-    little::put_4(out, 10, r.first, r.second, r.culprit, r.other);
-    little::put_u16(out, 14, 0);
+    let [f0, f1, f2, f3] = u32::to_le_bytes(v.faulty);
+    let [c0, c1] = u16::to_le_bytes(v.failing);
+    let (first, second, culprit, other) = match v.first {
+        Some(pair) => (pair.first, pair.second, pair.culprit, pair.other),
+        None => (0, 0, 0, 0),
+    };
+    let cleared = u8::from(v.cleared);
+    [
+        0, 255, cleared, 0, f0, f1, f2, f3, c0, c1, first, second, culprit, other, 0, 0,
+    ]
 }
 
-pub fn store_report(r: Report, out: &mut [u8; 512])
-    ensures { out.new ≡ report_bytes r }
+// Into lent bytes: From would copy them, and is no plainer.
+pub fn store_report(r: &Result<Findings, Refusal>, out: &mut [u8; 512])
+    ensures { out.new ≡ report_bytes (report_of r.now) }
 {
-    let marks = r.marks;
-    put_head(out, r);
-    little::put_bytes(out, 16, &marks);
+    match r {
+        Ok(found) => {
+            out[..16].copy_from_slice(&head(&found.summary));
+            out[16..].copy_from_slice(&found.marks);
+        }
+        Err(e) => {
+            *out = [0; 512];
+            out[0] = e.number();
+            out[1] = e.place();
+        }
+    }
 }

@@ -16,8 +16,7 @@ use Rattle.little.specs.EachByte.{Bytes}
 use Rattle.little.proofs.BytesBackLaws.{u32_read, i64_read, u32_stands, i64_stands}
 use Rattle.little.specs.Joined.{joined}
 use Rattle.little.proofs.JoinedLaws.{length-joined, stands-joined, stands-each}
-use Rattle.rule.proofs.FillLaws.{get_or-filled}
-use Rattle.rule_write.proofs.RowsBytesLaws.{slots_are}
+use Rattle.rule.proofs.FillLaws.{get_or-filled, slots_are}
 use Rattle.rule_sums.specs.Sums.{at}
 use Rattle.machine_spec.specs.declared.State.{State}
 use Rattle.layout_state.specs.States.{cells_from, state_from, cells_bytes, state_bytes}

@@ -15,8 +15,9 @@ use mir.Val.{SFits}
 use borrow.Author.Tests.{lt-ltb, le-ltb}
 use Rattle.little.specs.Little.{byte_at, u16_at, u32_at, u64_at, i64_at, signed}
 use Rattle.little.specs.Bytes.{u16_bytes, u32_bytes, u64_bytes, i64_bytes, unsigned}
-use Rattle.little.proofs.BytesLaws.{length_u16, length_u32}
-use Rattle.little.proofs.StandsLaws.{Stands, stands-nil, stands-cons, stands-left, stands_after, stands_then}
+use Rattle.little.proofs.BytesLaws.{length_u16, length_u32, length_u64, length_i64}
+use Rattle.little.proofs.StandsLaws.{Stands, stands-nil, stands-cons, stands-left, stands_after, stands_then, stands_put}
+use Rattle.little.specs.Put.{put}
 use Rattle.little.specs.EachByte.{Bytes}
 
 -- ---- a number as a low and a high part
@@ -125,6 +126,20 @@ module _ (s : List ℕ) where
     pub i64_stands : (i : ℕ) → i + 8 ≤ length s → Stands s i (i64_bytes (i64_at s i))
     unfolding i64_bytes
     i64_stands i h = let r = u64_stands i h in rw (unsigned_signed (u64_at s i) r.small) r.stands
+
+-- ---- what was written is read again
+module _ (s : List ℕ) (i : ℕ) where
+  pub u16_back : (x : ℕ) → x < 2 ^ 16 → i + 2 ≤ length s → u16_at (put s i (u16_bytes x)) i ≡ x
+  u16_back x l h = u16_read (put s i (u16_bytes x)) i x l (stands_put s i (u16_bytes x) (rw (length_u16 x) h))
+
+  pub u32_back : (x : ℕ) → x < 2 ^ 32 → i + 4 ≤ length s → u32_at (put s i (u32_bytes x)) i ≡ x
+  u32_back x l h = u32_read (put s i (u32_bytes x)) i x l (stands_put s i (u32_bytes x) (rw (length_u32 x) h))
+
+  pub u64_back : (x : ℕ) → x < 2 ^ 64 → i + 8 ≤ length s → u64_at (put s i (u64_bytes x)) i ≡ x
+  u64_back x l h = u64_read (put s i (u64_bytes x)) i x l (stands_put s i (u64_bytes x) (rw (length_u64 x) h))
+
+  pub i64_back : (z : ℤ) → SFits w64 z → i + 8 ≤ length s → i64_at (put s i (i64_bytes z)) i ≡ z
+  i64_back z f h = i64_read (put s i (i64_bytes z)) i z f (stands_put s i (i64_bytes z) (rw (length_i64 z) h))
 
 -- eight bytes that are the same are the same number
 pub word_same : (x s : List ℕ) (k p : ℕ) → ((j : ℕ) → j < 8 → get_or x (k + j) 0 ≡ byte_at s (p + j)) → u64_at x k ≡ u64_at s p

@@ -1,4 +1,4 @@
--- Laws that `bytes` stands on and passes on to other crates.
+-- Laws that `little` stands on and passes on to other crates.
 pub mod BytesBackLaws
 pub mod BytesLaws
 pub mod JoinedLaws

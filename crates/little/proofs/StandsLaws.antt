@@ -6,6 +6,8 @@ use native.Mathlib.Nat.{add_assoc, add-zero, zero-add}
 use native.Mathlib.Omega.{arith}
 use lib.ListN.{length, get_or, take, drop, length-append, length-drop, get_or-append}
 use lib.Seq.{get_or-append-add, get_or-take, get_or-drop, length-take-le, ext_get_or}
+use Rattle.little.specs.Put.{put}
+use Rattle.little.proofs.PutLaws.{length-put}
 
 -- from i on, s has the bytes bs
 pub record Stands (s : List ℕ) (i : ℕ) (bs : List ℕ) : Type 0 where
@@ -86,3 +88,17 @@ part_stands s p n bs e h =
     let l : length (take n (drop p s)) ≡ n = length-take-le n (drop p s) (omega (arith, h.inside, length-drop p s)) in
     ext_get_or 0 bs (take n (drop p s)) (e ∙ sym l)
     (λ j g. sym (get_or-take n (drop p s) j 0 (omega arith) ∙ get_or-drop p s j 0 ∙ h.same j g))
+
+-- what was written stands where it was written
+pub stands_put : (d : List ℕ) (i : ℕ) (bs : List ℕ) → i + length bs ≤ length d → Stands (put d i bs) i bs
+unfolding put
+stands_put d i bs fits =
+    let h = take i d in
+    let e : length h ≡ i = length-take-le i d (omega arith) in
+    record {
+      inside = rw (length-put d i bs fits) fits;
+      same = λ j l.
+          get_or-append (h ++ bs) (drop (i + length bs) d) 0 (i + j) (rw (length-append, e) (omega arith))
+          ∙ ap (λ (k : ℕ). get_or (h ++ bs) (k + j) 0) (sym e)
+          ∙ get_or-append-add h bs j 0;
+    }

@@ -1,4 +1,4 @@
--- What the contracts of `bytes` cite.
+-- What the contracts of `little` cite.
 pub mod Bytes
 pub mod EachByte
 pub mod Joined

@@ -11,7 +11,7 @@ use Rattle.rule.specs.Numbers.{not_zero}
 use Rattle.table.specs.Table.{Table}
 use Rattle.table.specs.Check.{check_of}
 use Rattle.machine_spec.specs.declared.State.{State}
-use Rattle.machine_spec.specs.declared.Ran.{Ran}
+use Rattle.machine_spec.specs.Run.{Ran}
 use Rattle.machine_spec.specs.State.{state_bad, still, zeros}
 use Rattle.machine_spec.specs.Step.{effect, step_numbers, step_of, post_numbers, post_of, fresh_of}
 use Rattle.machine_spec.specs.Run.{ran, later, runs, run_of}

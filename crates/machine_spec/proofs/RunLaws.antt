@@ -1,4 +1,5 @@
 -- The run is the iteration of the step on the lowest-numbered eligible rule, and counts those steps.
+use Rattle.std.specs.Prelude.{Err}
 use mathlib.Core.Path.{◌≡◌, refl, sym, ap, ◌∙◌, subst}
 use mathlib.Core.Bool.{true}
 use Prim.Native.Nat.{ℕ, zero, suc, ◌+◌, ◌-◌, ◌<◌, ◌≤◌}
@@ -6,16 +7,18 @@ use native.Mathlib.Decide.{ℕ_discrete}
 use native.Mathlib.Omega.{arith}
 use borrow.Author.Tests.{eq-eqb, ne_eqb}
 use Rattle.table.specs.Table.{Table}
-use Rattle.table.specs.declared.Answer.{Answer}
+use Rattle.refusal.specs.declared.Refusal.{Refusal}
+use Rattle.refusal.specs.Answer.{Answer}
+use Rattle.refusal.specs.RefusalNumbers.{answer_of, number_of}
+use Rattle.refusal.proofs.RefusalLaws.{not_done}
 use Rattle.table.specs.Check.{check_of, Sound}
 use Rattle.machine_spec.specs.declared.State.{State}
-use Rattle.machine_spec.specs.declared.Ran.{Ran}
 use Rattle.machine_spec.specs.State.{state_bad, Fits, lowest_of}
 use Rattle.machine_spec.specs.Step.{effect, moved, step_of}
 use Rattle.machine_spec.proofs.EffectLaws.{effect-fits}
 use Rattle.machine_spec.proofs.StepLaws.{step_is}
 use Rattle.machine_spec.proofs.EligibleLaws.{lowest-eligible, lowest-below}
-use Rattle.machine_spec.specs.Run.{ran, later, runs, run_of}
+use Rattle.machine_spec.specs.Run.{Ran, ran, later, runs, run_of, ran_of}
 
 -- ---- one step of a run
 
@@ -103,9 +106,9 @@ runs-steps t s (suc budget) sd h = pick (ℕ_discrete s.waiting 0) (runs-steps t
 -- ---- the call
 module _ (t : Table) (s : State) (budget : ℕ) where
   -- refused by the table; refused by 11; run
-  pub run-table : (a : Answer) → a ≡ check_of t → (a.number ≡ 0 → ⊥) → ran a.number a.place s 0 ≡ run_of t s budget
+  pub run-table : (e : Refusal) → answer_of {A = Unit {0}} (Err e) ≡ check_of t → ran_of s (Err e) ≡ run_of t s budget
   unfolding run_of
-  run-table a e ne = rw (← e, ne_eqb a.number 0 ne)
+  run-table e q = rw (← q, ne_eqb (number_of e) 0 (not_done e))
 
   pub run_11 : Sound t → state_bad t s ≡ true → run_of t s budget ≡ ran 11 255 s 0
   unfolding run_of

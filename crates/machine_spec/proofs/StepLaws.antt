@@ -1,5 +1,6 @@
 -- The step's promise, as laws: when it is done, what it then gives, and that Fits is kept. Later crates cite this and
 -- `EffectLaws`.
+use Rattle.std.specs.Prelude.{Ok, Err}
 use mathlib.Core.Path.{◌≡◌, refl, sym, ap, ◌∙◌}
 use mathlib.Core.Bool.{Bool, true, false, not, cond}
 use mathlib.Core.List.{List}
@@ -12,12 +13,15 @@ use Rattle.mask.proofs.FirstLaws.{number_passed, passed_first}
 use Rattle.mask.proofs.SearchLaws.{and_true_both}
 use Rattle.rule.specs.Numbers.{not_zero}
 use Rattle.table.specs.Table.{Table}
-use Rattle.table.specs.declared.Answer.{Answer}
+use Rattle.refusal.specs.declared.Refusal.{Refusal}
+use Rattle.refusal.specs.Answer.{Answer}
+use Rattle.refusal.specs.RefusalNumbers.{answer_of}
+use Rattle.refusal.proofs.RefusalLaws.{not_done}
 use Rattle.table.proofs.SoundLaws.{sound-by}
-use Rattle.table.specs.Check.{check_of, Sound}
+use Rattle.table.specs.Check.{answer, done, check_of, Sound}
 use Rattle.machine_spec.specs.declared.State.{State}
 use Rattle.machine_spec.specs.State.{state_bad, Fits, waits, held_back, eligible}
-use Rattle.machine_spec.specs.Step.{effect, moved, answered, step_numbers, step_of}
+use Rattle.machine_spec.specs.Step.{effect, moved, moved_of, answered, step_numbers, step_of}
 use Rattle.machine_spec.proofs.EffectLaws.{effect-fits}
 
 -- r can be stepped: none of 11 to 14 applies
@@ -98,16 +102,22 @@ module _ (t : Table) (numbers : List (Bool × ℕ)) (given after : State) where
       pick zero (suc b) e q = rw (eqb-suc-zero b) h
       pick (suc a) b e q = rw (eqb-suc-zero a) h
 
--- what a call's first check tells: the table is sound, or its answer is the call's
-module _ (t : Table) (a : Answer) (e : a ≡ check_of t) where
-  pub checked-sound : a.number ≡ 0 → Sound t
-  checked-sound z = sound-by t (ap (λ (x : Answer). x.number) (sym e) ∙ z)
+-- what a call's checks tell: refused by the table; refused by its own; done
+module _ (t : Table) (numbers : List (Bool × ℕ)) (given after : State) where
+  pub told-table : (e : Refusal) → answer_of {A = Unit {0}} (Err e) ≡ check_of t
+      → moved_of given (Err e) ≡ answered t numbers given after
+  told-table e q =
+      ap (λ (a : Answer). moved a.number a.place given) q
+      ∙ sym (answered-table t numbers given after (λ z. not_done e (ap (λ (a : Answer). a.number) q ∙ z)))
 
-  pub checked_refused : (a.number ≡ 0 → ⊥) → (numbers : List (Bool × ℕ)) (given after : State)
-      → moved a.number a.place given ≡ answered t numbers given after
-  checked_refused ne numbers given after =
-      ap (λ (x : Answer). moved x.number x.place given) e
-      ∙ sym (answered-table t numbers given after (λ z. ne (ap (λ (x : Answer). x.number) e ∙ z)))
+  pub told-own : (e : Refusal) → Sound t → answer_of {A = Unit {0}} (Err e) ≡ answer (first_of 0 numbers) 255
+      → moved_of given (Err e) ≡ answered t numbers given after
+  told-own e sd q =
+      ap (λ (a : Answer). moved a.number a.place given) q
+      ∙ sym (answered-own t numbers given after sd (λ z. not_done e (ap (λ (a : Answer). a.number) q ∙ z)))
+
+  pub told-done : Sound t → done ≡ answer (first_of 0 numbers) 255 → moved_of given (Ok after) ≡ answered t numbers given after
+  told-done sd q = sym (answered-is t numbers given after sd (sym (ap (λ (a : Answer). a.number) q)))
 
 -- ---- the step
 -- done exactly when r is below n, waits, and no waiting rule goes before it

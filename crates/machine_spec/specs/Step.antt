@@ -1,5 +1,7 @@
 -- The step, the posting and the fresh state, as the paper says them.
-use Rattle.std.specs.Prelude.{Bool, not, cond, ◌&&◌, ◌||◌, List, [], ◌∷◌, ℕ, ltb, leb, eqb, set, ℤ}
+use Rattle.std.specs.Prelude.{Bool, not, cond, ◌&&◌, ◌||◌, List, [], ◌∷◌, ℕ, ltb, leb, eqb, set, ℤ, Result, Ok, Err}
+use Rattle.refusal.specs.declared.Refusal.{Refusal}
+use Rattle.refusal.specs.RefusalNumbers.{number_of, place_of}
 use Rattle.mask.specs.Search.{some}
 use Rattle.mask.specs.Mask.{has, mask_of}
 use Rattle.mask.specs.First.{first_of}
@@ -10,7 +12,6 @@ use Rattle.table.specs.Check.{check_of, checked}
 use Rattle.rule_sums.specs.Sums.{at, differs}
 use Rattle.rule_act.specs.Amounts.{any_false, any_out, stored}
 use Rattle.machine_spec.specs.declared.State.{State}
-use Rattle.machine_spec.specs.declared.Moved.{Moved}
 use Rattle.machine_spec.specs.State.{state_bad, still, zeros, waits, held_back}
 
 -- ---- "Step on r."
@@ -42,6 +43,12 @@ effect t s r =
 
 -- ---- the calls
 
+-- a number with its place, and the state that comes back
+pub record Moved : Type 0 where
+  pub number : ℕ
+  pub place : ℕ
+  pub state : State
+
 abbrev pub moved : ℕ → ℕ → State → Moved
 moved number place s = record { number = number; place = place; state = s }
 
@@ -70,3 +77,8 @@ post_of t s cell value = answered t (post_numbers t s cell value) s (stored_and_
 -- a fresh state from 32 amounts: 11 where they do not fit, and zeros where it is refused
 unfoldable pub fresh_of : Table → List ℤ → Moved
 fresh_of t amounts = answered t ((state_bad t (still amounts), 11) ∷ []) zeros (still amounts)
+
+-- what a call says that returns a state: "A refused step, posting or run gives back the state it was given"
+abbrev pub moved_of : State → Result State Refusal → Moved
+moved_of given (Ok s) = moved 0 255 s
+moved_of given (Err e) = moved (number_of e) (place_of e) given

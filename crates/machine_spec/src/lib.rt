@@ -1,5 +1,8 @@
-// A state by value, and what comes back from a call on one. What a step, a posting and a run do is said in specs/.
+// A state by value, and how a run ends. What a step, a posting and a run do is said in specs/.
 #![tactic(auto)]
+
+ghost use Rattle.std.specs.Prelude.{◌≡◌};
+ghost use Rattle.machine_spec.specs.Run.{end_number};
 
 #[derive(Clone, Copy)]
 pub struct State {
@@ -8,19 +11,29 @@ pub struct State {
     pub faults: u32,
 }
 
-// A number with its place, and the state that comes back.
-#[derive(Clone, Copy)]
-pub struct Moved {
-    pub number: u8,
-    pub place: u8,
-    pub state: State,
+// Nothing waits, or the budget is used while something waits.
+#[derive(Clone, Copy, Debug, PartialEq, Eq)]
+pub enum End {
+    Rest,
+    Spent,
 }
 
-// The same of a run, with the steps taken.
+impl End {
+    // The paper's number, which is no refusal; by name as a refusal's is.
+    pub fn number(self) -> u8
+        ensures { result ≡ end_number self }
+    {
+        match self {
+            End::Rest => 0,
+            End::Spent => 15,
+        }
+    }
+}
+
+// The state that a run reached, and the steps taken.
 #[derive(Clone, Copy)]
-pub struct Ran {
-    pub number: u8,
-    pub place: u8,
+pub struct Run {
     pub state: State,
     pub steps: u32,
+    pub end: End,
 }

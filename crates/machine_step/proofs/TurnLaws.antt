@@ -32,7 +32,7 @@ use Rattle.machine_spec.specs.declared.State.{State}
 use Rattle.machine_spec.specs.State.{state_bad, waits}
 use Rattle.machine_spec.proofs.AmountsInRangeLaws.{steppable-at}
 use Rattle.machine_spec.specs.Step.{rested, marked, wakes, stored_and_woken, effect}
-use Rattle.machine_step.specs.MachineStepInner.{state_of, state_bad_by, wakes_by, stored_and_woken_by, effect_by}
+use Rattle.machine_step.specs.MachineStepInner.{state_bad_by, wakes_by, stored_and_woken_by, effect_by}
 
 -- a mask by a test is known by the test below 32
 pub mask-same : (f g : ℕ → Bool) → ((x : ℕ) → x < 32 → f x ≡ g x) → mask_of 32 f ≡ mask_of 32 g
@@ -85,10 +85,10 @@ module _ (t : Table) (few : t.n ≤ 32) where
 -- the rules that watch a cell of the mask of those that differ wait
 pub woken-is : (row : List ℕ) (s : State) (after : List ℤ) (m q : ℕ) → m ≡ changed_cells s.cells after
     → q ≡ mask_of 32 (λ x. waits s x || meet (get_or row x 0) m)
-    → state_of after (record { waiting = q; faults = s.faults }) ≡ stored_and_woken_by row s after
+    → record s { cells = after; waiting = q } ≡ stored_and_woken_by row s after
 unfolding stored_and_woken_by
 woken-is row s after m q e h =
-    ap (λ (w : ℕ). state_of after (record { waiting = w; faults = s.faults }))
+    ap (λ (w : ℕ). record s { cells = after; waiting = w })
     (h
     ∙ mask-same (λ x. waits s x || meet (get_or row x 0) m) (λ x. waits s x || wakes_by row s.cells after x)
     (λ x l.
@@ -98,35 +98,32 @@ woken-is row s after m q e h =
 -- r, which has stopped waiting, has a false test; it fails; it stores
 module _ (one : Rule) (row : List ℕ) (s : State) (r w : ℕ) (small : w < 2 ^ 32)
     (rest : (x : ℕ) → has w x ≡ (waits s x && not (eqb x r))) where
-  stopped : state_of s.cells (record { waiting = w; faults = s.faults }) ≡ rested s r
+  stopped : record s { waiting = w } ≡ rested s r
   unfolding rested
-  stopped =
-      ap (λ (m : ℕ). state_of s.cells (record { waiting = m; faults = s.faults }))
-      (is-mask_of w (λ x. waits s x && not (eqb x r)) small rest)
+  stopped = ap (λ (m : ℕ). record s { waiting = m }) (is-mask_of w (λ x. waits s x && not (eqb x r)) small rest)
 
-  pub turn_false : any_false one s.cells ≡ true
-      → state_of s.cells (record { waiting = w; faults = s.faults }) ≡ effect_by one row s r
+  pub turn_false : any_false one s.cells ≡ true → record s { waiting = w } ≡ effect_by one row s r
   unfolding effect_by
   turn_false e = rw e stopped
 
   module _ (tests : any_false one s.cells ≡ false) where
     pub turn-out : any_out one s.cells ≡ true → (f : ℕ) → f < 2 ^ 32
         → ((x : ℕ) → has f x ≡ (has s.faults x || eqb x r))
-        → state_of s.cells (record { waiting = w; faults = f }) ≡ effect_by one row s r
+        → record s { waiting = w; faults = f } ≡ effect_by one row s r
     unfolding effect_by marked
     turn-out e f l h =
         rw (tests, e, ← stopped)
-        (ap (λ (m : ℕ). state_of s.cells (record { waiting = w; faults = m }))
+        (ap (λ (m : ℕ). record s { waiting = w; faults = m })
         (is-mask_of f (λ x. has s.faults x || eqb x r) l h))
 
     pub turn-stored : any_out one s.cells ≡ false → (after : List ℤ) (m q : ℕ)
         → Stored one s.cells one.a after m → q ≡ mask_of 32 (λ x. has w x || meet (get_or row x 0) m)
-        → state_of after (record { waiting = q; faults = s.faults }) ≡ effect_by one row s r
+        → record s { cells = after; waiting = q } ≡ effect_by one row s r
     unfolding effect_by
     turn-stored e after m q h k =
         rw (tests, e, ← stopped)
-        (woken-is row (state_of s.cells (record { waiting = w; faults = s.faults })) after m q h.mask k
-        ∙ ap (stored_and_woken_by row (state_of s.cells (record { waiting = w; faults = s.faults }))) h.cells)
+        (woken-is row (record s { waiting = w }) after m q h.mask k
+        ∙ ap (stored_and_woken_by row (record s { waiting = w })) h.cells)
 
 -- ---- of a table where it lies
 

@@ -8,11 +8,6 @@ use Rattle.rule_act.specs.RuleActInner.{changes}
 use Rattle.machine_spec.specs.declared.State.{State}
 use Rattle.machine_spec.specs.State.{waits, cell_bad}
 use Rattle.machine_spec.specs.Step.{rested, marked}
-use Rattle.machine_step.specs.declared.StateMasks.{StateMasks}
-
--- the state with these cells
-abbrev pub state_of : List ℤ → StateMasks → State
-state_of cells m = record { cells = cells; waiting = m.waiting; faults = m.faults }
 
 -- 11, of a table of n rules and k cells
 abbrev pub state_bad_by : ℕ → ℕ → State → Bool

@@ -1,4 +1,5 @@
 -- Laws that `mask` stands on and passes on to other crates.
+pub mod AnyLaws
 pub mod BitsLaws
 pub mod CountsLaws
 pub mod FirstLaws

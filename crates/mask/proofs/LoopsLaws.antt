@@ -1,11 +1,11 @@
--- What a loop over 0..n has done: a search, a list of which the entries below i are new, a set of the numbers below i that pass a test,
--- a union of sets, a union of rows.
+-- What a loop over 0..n has done: a search for the first, a list of which the entries below i are new, a set of the numbers below i that
+-- pass a test, a union of rows.
 use mathlib.Core.Path.{◌≡◌, refl, sym, ap, ap₂, ◌∙◌, subst}
 use mathlib.Core.Logic.{⊎_elim}
 use mathlib.Core.Bool.{Bool, true, false, not, ◌&&◌, ◌||◌, cond, and_comm, or-false, or_assoc}
 use mathlib.Core.List.{List}
 use Prim.Native.Nat.{ℕ, zero, suc, ◌+◌, ◌*◌, ◌^◌, ◌≤◌, ◌<◌}
-use native.Mathlib.Nat.{le_antisymm, add_comm, one-mul, pow-suc, lt_irrefl, le-suc, le_trans, eq-or-lt_of_le, not-suc-le-zero}
+use native.Mathlib.Nat.{add_comm, one-mul, pow-suc, lt_irrefl, le-suc, le_trans, eq-or-lt_of_le, not-suc-le-zero}
 use native.Mathlib.Numerals.{add-one}
 use native.Mathlib.Omega.{arith}
 use lib.Dec.{eqb, ltb, lit<}
@@ -14,26 +14,11 @@ use lib.Seq.{get_or-set_same, get_or-set_other}
 use borrow.Author.Count.{below_more}
 use borrow.Author.Tests.{lt-ltb, le-ltb, ltb-true, ltb-false, eq-eqb, ne_eqb}
 use Rattle.mask.specs.Search.{some, least}
-use Rattle.mask.proofs.SearchLaws.{lt-or_ge, some_but, some_same, some-none, some_more, least_by, least-none}
+use Rattle.mask.proofs.SearchLaws.{lt-or_ge, some_but, some_same, some-none, least_by, least-none}
 use Rattle.mask.specs.Mask.{has, mask_of}
 use Rattle.mask.proofs.BitsLaws.{has-zero, has-or, has_bit, ext}
 use lib.Bits.{bit_or, or_shifted_r}
 use Rattle.mask.specs.MaskInner.{Upto, named}
-
--- ---- a search: `found` says whether f holds at a number below i
-
-pub record Sought (f : ℕ → Bool) (i : ℕ) (found : Bool) : Type 0 where
-  pub is : found ≡ some i f
-
-pub sought_none : {f : ℕ → Bool} → Sought f 0 false
-unfolding some
-sought_none = record { is = refl }
-
-pub sought_more : {f : ℕ → Bool} {i : ℕ} {found : Bool} → Sought f i found → {b : Bool} → b ≡ f i → Sought f (i + 1) (b || found)
-sought_more {f} {i} h p = record { is = ap₂ ◌||◌ p h.is ∙ sym (some_more i f) }
-
-pub sought_all : {f : ℕ → Bool} {i n : ℕ} {found : Bool} → Sought f i found → i ≤ n → n ≤ i → found ≡ some n f
-sought_all {f} h l m = h.is ∙ ap (λ (k : ℕ). some k f) (le_antisymm l m)
 
 -- ---- a search for the first: f holds at no number below i
 
@@ -82,10 +67,10 @@ zeros-at (suc n) (suc r) = zeros-at n r
 abbrev pub Picked : (ℕ → Bool) → ℕ → ℕ → Type 0
 Picked f i a = (s : ℕ) → has a s ≡ (ltb s i && f s)
 
-pub picked_none : (f : ℕ → Bool) → Picked f 0 0
+picked_none : (f : ℕ → Bool) → Picked f 0 0
 picked_none f s = has-zero s ∙ sym (ap (λ (b : Bool). b && f s) (le-ltb s 0 (omega arith)))
 
-pub picked_skip : (f : ℕ → Bool) (i a : ℕ) → Picked f i a → f i ≡ false → Picked f (i + 1) a
+picked_skip : (f : ℕ → Bool) (i a : ℕ) → Picked f i a → f i ≡ false → Picked f (i + 1) a
 picked_skip f i a h e s = h s ∙ pick (ltb s i) refl
   where
     pick : (b : Bool) → ltb s i ≡ b → (ltb s i && f s) ≡ (ltb s (i + 1) && f s)
@@ -95,7 +80,7 @@ picked_skip f i a h e s = h s ∙ pick (ltb s i) refl
         (λ l. sym (ap (λ (b : Bool). b && f s) (le-ltb s (i + 1) (omega arith))))
         (eq-or-lt_of_le (ltb-false s i q))
 
-pub picked_take : (f : ℕ → Bool) (i a b : ℕ) → Picked f i a → f i ≡ true → ((k : ℕ) → has b k ≡ (has a k || eqb k i)) → Picked f (i + 1) b
+picked_take : (f : ℕ → Bool) (i a b : ℕ) → Picked f i a → f i ≡ true → ((k : ℕ) → has b k ≡ (has a k || eqb k i)) → Picked f (i + 1) b
 picked_take f i a b h e w s = w s ∙ ap (λ (x : Bool). x || eqb s i) (h s) ∙ pick (ltb s i) refl
   where
     pick : (t : Bool) → ltb s i ≡ t → (ltb s i && f s || eqb s i) ≡ (ltb s (i + 1) && f s)
@@ -113,22 +98,7 @@ picked_all f n a h s l = h s ∙ ap (λ (b : Bool). b && f s) (lt-ltb s n l)
 pub picked_every : (f : ℕ → Bool) (n a : ℕ) → Picked f n a → ((s : ℕ) → n ≤ s → f s ≡ false) → (s : ℕ) → has a s ≡ f s
 picked_every f n a h out s = ⊎_elim (picked_all f n a h s) (λ l. h s ∙ ap (λ (b : Bool). b && f s) (le-ltb s n l) ∙ sym (out s l)) (lt-or_ge s n)
 
--- ---- a union, number by number: a has the members of the sets F x of the numbers x below i
-
-pub record United (F : ℕ → ℕ → Bool) (i a : ℕ) : Type 0 where
-  pub members : (s : ℕ) → has a s ≡ some i (λ x. F x s)
-
-pub united_none : {F : ℕ → ℕ → Bool} → United F 0 0
-unfolding some
-united_none = record { members = has-zero }
-
-pub united_more : {F : ℕ → ℕ → Bool} {i a : ℕ} → United F i a → (m : ℕ) → ((s : ℕ) → has m s ≡ F i s)
-    → United F (i + 1) (bit_or m a)
-united_more {F} {i} {a} h m e =
-    record { members = λ s. has-or m a s ∙ ap₂ ◌||◌ (e s) (h.members s) ∙ sym (some_more i (λ x. F x s)) }
-
-pub united_all : {F : ℕ → ℕ → Bool} {i a n : ℕ} → United F i a → i ≤ n → n ≤ i → (s : ℕ) → has a s ≡ some n (λ x. F x s)
-united_all {F} h l m s = h.members s ∙ ap (λ (k : ℕ). some k (λ x. F x s)) (le_antisymm l m)
+-- ---- a union of rows: what a has got and what `left` still names is what m names
 
 abbrev pub Gathering : List ℕ → ℕ → ℕ → ℕ → Type 0
 Gathering rows m left a = (s : ℕ) → (has a s || some 32 (named rows left s)) ≡ some 32 (named rows m s)

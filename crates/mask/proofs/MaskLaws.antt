@@ -162,6 +162,9 @@ pub lowest-is : (m : ℕ) → Least 32 (has m) (lowest m)
 unfolding lowest
 lowest-is m = least-is 32 (has m)
 
+pub lowest_bound : (m : ℕ) → lowest m ≤ 32
+lowest_bound m = (lowest-is m).bound
+
 -- a mask that is not 0 has one
 pub lowest-has : (m : ℕ) → m < 2 ^ 32 → (m ≡ 0 → ⊥) → (lowest m < 32) × (has m (lowest m) ≡ true)
 lowest-has m h ne =
@@ -169,3 +172,9 @@ lowest-has m h ne =
     (λ l. (l, (lowest-is m).is l))
     (λ l. absurd (ne (no_member m h (λ i k. (lowest-is m).first i (le_trans k l)))))
     (lt-or_ge (lowest m) 32)
+
+pub lowest_in : (m : ℕ) → m < 2 ^ 32 → (m ≡ 0 → ⊥) → lowest m < 32
+lowest_in m h ne = (lowest-has m h ne).0
+
+pub lowest_member : (m x : ℕ) → x ≡ lowest m → m < 2 ^ 32 → (m ≡ 0 → ⊥) → (x < 32) × (has m x ≡ true)
+lowest_member m x e h ne = rw e (lowest-has m h ne)

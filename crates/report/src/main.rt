@@ -7,6 +7,7 @@ use std::io;
 use std::io::{Read, Write};
 
 // Reads until buf is full or the input ends, and returns how many bytes it put at the start of buf.
+// `read_exact` refuses an input that ends early, and `read_to_end` fills a Vec: nothing here is on the heap.
 fn read_full<R: Read>(input: &mut R, buf: &mut [u8]) -> io::Result<usize>
     ensures { ReadsAtMost result buf.new }
 {

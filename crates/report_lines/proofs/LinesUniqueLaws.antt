@@ -10,8 +10,12 @@ use Rattle.book_judge.proofs.ReadLaws.{read_done}
 use Rattle.analysis.proofs.SaysLaws.{report-unique, bound_of_unique}
 use Rattle.report_masks.proofs.BodyMasksLaws.{narrow}
 use Rattle.report_lines.specs.FourLines.{four_lines}
-use Rattle.report_lines.specs.declared.Printed.{Printed}
-use Rattle.report_lines.specs.Lines.{laid, FourLines, TextOf, LinesSay}
+use Rattle.refusal.specs.RefusalNumbers.{answer_of}
+use Rattle.refusal.proofs.RefusalLaws.{answer_unique}
+use Rattle.refusal.specs.declared.Refusal.{Refusal}
+use Rattle.std.proofs.Common.{Result}
+use Rattle.report_lines.specs.declared.Output.{Output}
+use Rattle.report_lines.specs.Lines.{Printed, printed_of, laid, FourLines, TextOf, LinesSay}
 
 -- the precedes masks of a table have 32 bits
 abbrev Narrow : Table → Type 0
@@ -38,3 +42,10 @@ module _ (s : List ℕ) (bytes : Bytes s) where
 
   pub lines-unique : (d : List ℕ) {x y : Printed × List ℕ} → LinesSay s d x → LinesSay s d y → x ≡ y
   lines-unique d p q = p.is ∙ (ap (laid (told (read_of s)) d) (text-unique p.printed q.printed) ∙ sym q.is)
+
+-- the paper's answer determines what lines returns
+pub printed_determines : (x y : Output) → printed_of x ≡ printed_of y → x ≡ y
+printed_determines x y e =
+    let told : answer_of x.book ≡ answer_of y.book =
+    ap₂ (λ (n p : ℕ). record { number = n; place = p }) (ap (λ (p : Printed). p.number) e) (ap (λ (p : Printed). p.place) e) in
+    ap₂ (λ (b : Result (Unit {0}) Refusal) (n : ℕ). record { book = b; length = n }) (answer_unique x.book y.book told) (ap (λ (p : Printed). p.length) e)

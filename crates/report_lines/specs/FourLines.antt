@@ -1,8 +1,8 @@
 -- "What the report program prints": its lines.
 use Rattle.std.specs.Prelude.{Bool, cond, List, [], ◌∷◌, ◌++◌, ℕ, eqb}
 use Rattle.table.specs.Table.{Table}
-use Rattle.analysis_masks.specs.declared.Report.{Report}
-use Rattle.analysis_masks.specs.declared.Bound.{Bound}
+use Rattle.analysis_masks.specs.Report.{Report}
+use Rattle.analysis_masks.specs.Bound.{Bound}
 use Rattle.report_text.specs.Text.{letters, line, members}
 
 -- "A refused book prints one line: `refused` number place."

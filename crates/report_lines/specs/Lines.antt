@@ -2,14 +2,24 @@
 use Rattle.std.specs.Prelude.{◌≡◌, cond, List, ℕ, ◌-◌, ◌^◌, ◌≤◌, ltb, length}
 use Rattle.little.specs.Put.{put}
 use Rattle.table.specs.Table.{Table}
-use Rattle.table.specs.declared.Answer.{Answer}
+use Rattle.refusal.specs.Answer.{Answer}
+use Rattle.refusal.specs.RefusalNumbers.{answer_of}
 use Rattle.table.specs.Check.{Checked}
 use Rattle.book_judge.specs.Read.{Reading, read_of, told}
-use Rattle.analysis_masks.specs.declared.Report.{Report}
-use Rattle.analysis_masks.specs.declared.Bound.{Bound}
+use Rattle.analysis_masks.specs.Report.{Report}
+use Rattle.analysis_masks.specs.Bound.{Bound}
 use Rattle.analysis.specs.Says.{ReportSays, BoundSays}
-use Rattle.report_lines.specs.declared.Printed.{Printed}
+use Rattle.report_lines.specs.declared.Output.{Output}
 use Rattle.report_lines.specs.FourLines.{refused_line, four_lines}
+
+-- what a call gives: the book's number and place, and the length of the text
+pub record Printed : Type 0 where
+  pub number : ℕ
+  pub place : ℕ
+  pub length : ℕ
+
+abbrev pub printed_of : Output → Printed
+printed_of o = record { number = (answer_of o.book).number; place = (answer_of o.book).place; length = o.length }
 
 -- the number, the place and the length of a text, and the buffer with the text at its start; a buffer that is too short stays as it
 -- is, and the length is 0

@@ -1,9 +1,9 @@
 -- What only contracts of inner functions of `report_lines` cite.
-use Rattle.std.specs.Prelude.{◌≡◌, List, ℕ, ◌≤◌, ◌-◌, ◌^◌, length, take}
+use Rattle.std.specs.Prelude.{◌≡◌, List, ℕ, ◌-◌, ◌^◌}
 use Rattle.table.specs.Table.{Table}
-use Rattle.analysis_masks.specs.declared.Bound.{Bound}
+use Rattle.analysis_masks.specs.Bound.{Bound}
 use Rattle.analysis.specs.Says.{ReportSays, BoundSays}
-use Rattle.analysis_masks.specs.AnalysisMasksInner.{report_in}
+use Rattle.analysis_masks.specs.Found.{report_in}
 use Rattle.report_lines.specs.declared.Found.{Found}
 
 -- what is found of a table: a report, all but its marks, and the step bound of all rules
@@ -13,9 +13,3 @@ pub record FoundOf (t : Table) (f : Found) : Type 0 where
   pub bound : Bound
   pub bounds : BoundSays t (2 ^ t.n - 1) bound
   pub is : f.bound ≡ bound.bound
-
--- a text of which P holds, in a buffer that was d
-pub record Texted (P : List ℕ → Type 0) (d e : List ℕ) (end : ℕ) : Type 0 where
-  pub text : P (take end e)
-  pub size : length e ≡ length d
-  pub most : end ≤ 512

@@ -3,24 +3,26 @@
 
 ghost use Rattle.std.specs.Prelude.{◌≡◌, ◌∷◌, [], ◌+◌, ◌≤◌, length, take};
 ghost use Rattle.book_judge.specs.Read.{table_in, read_of, told};
-ghost use Rattle.analysis_masks.specs.AnalysisMasksInner.{report_in};
+ghost use Rattle.analysis_masks.specs.Found.{report_in};
+ghost use Rattle.refusal.specs.RefusalNumbers.{answer_of};
 ghost use Rattle.report_text.specs.Text.{line};
 ghost use Rattle.report_lines.specs.FourLines.{ends_line, pairs_line, cleared_line};
 ghost use Rattle.report_text.specs.ReportTextInner.{Added};
-ghost use Rattle.report_lines.specs.ReportLinesInner.{FoundOf, Texted};
-ghost use Rattle.report_lines.specs.Lines.{laid, FourLines, TextOf, LinesSay};
+ghost use Rattle.report_lines.specs.ReportLinesInner.{FoundOf};
+ghost use Rattle.report_lines.specs.Lines.{printed_of, FourLines, TextOf, LinesSay};
 
 use analysis_masks::Summary;
-use table::Answer;
+use refusal::Refusal;
+use report_text::Text;
 
-#[derive(Clone, Copy)]
-pub struct Printed {
-    pub number: u8,
-    pub place: u8,
+// Whether the book is refused, and the length of the text, or 0 where it does not fit: the promise (`laid`) has the number 0.
+#[derive(Clone, Copy, Debug, PartialEq, Eq)]
+pub struct Output {
+    pub book: Result<(), Refusal>,
     pub length: usize,
 }
 
-// A report but for its marks, and the step bound of all rules.
+// A report but for its marks, and the step bound of all rules, or 0: `ends_line faulty bound` of specs/ takes both.
 #[derive(Clone, Copy)]
 struct Found {
     summary: Summary,
@@ -28,52 +30,52 @@ struct Found {
 }
 
 // A line of a word and two numbers.
-fn numbered(out: &mut [u8; 512], at: usize, w: &[u8], a: u8, b: u8) -> usize
-    requires { (at + 30 ≤ 512) × (length w.now ≤ 7) }
-    ensures { Added out.old at (line w.now (a ∷ b ∷ [])) 30 out.new result }
+fn numbered(text: &mut Text, word: &[u8], a: u8, b: u8)
+    requires { (length text.old.items + 30 ≤ 512) × (length word.now ≤ 7) }
+    ensures { Added (line word.now (a ∷ b ∷ [])) 30 text.old.items text.new.items }
 {
-    let word = report_text::word(out, at, w);
-    let end = report_text::two_numbers(out, word, a, b);
-    report_text::push(out, end, 10)
+    report_text::word(text, word);
+    report_text::two_numbers(text, a, b);
+    report_text::push(text, b'\n');
 }
 
-fn ends_line(out: &mut [u8; 512], at: usize, faulty: u32, bound: u32) -> usize
-    requires { at + 360 ≤ 512 }
-    ensures { Added out.old at (ends_line faulty bound) 360 out.new result }
+fn ends_line(text: &mut Text, faulty: u32, bound: u32)
+    requires { length text.old.items + 360 ≤ 512 }
+    ensures { Added (ends_line faulty bound) 360 text.old.items text.new.items }
 {
     if faulty == 0 {
-        let yes = report_text::word(out, at, b"ends yes");
-        let end = report_text::number(out, yes, bound);
-        return report_text::push(out, end, 10);
+        report_text::word(text, b"ends yes");
+        report_text::number(text, bound);
+    } else {
+        report_text::word(text, b"ends no");
+        report_text::members(text, faulty);
     }
-    let no = report_text::word(out, at, b"ends no");
-    let end = report_text::members(out, no, faulty);
-    report_text::push(out, end, 10)
+    report_text::push(text, b'\n');
 }
 
 // The marks of a report are not printed.
-fn pairs_line(out: &mut [u8; 512], at: usize, v: Summary) -> usize
-    requires { at + 61 ≤ 512 }
-    ensures { Added out.old at (pairs_line (report_in v [])) 61 out.new result }
+fn pairs_line(text: &mut Text, v: &Summary)
+    requires { length text.old.items + 61 ≤ 512 }
+    ensures { Added (pairs_line (report_in v.now [])) 61 text.old.items text.new.items }
 {
-    let word = report_text::word(out, at, b"pairs");
-    let failing = report_text::number(out, word, report_text::wider(v.failing));
-    if v.failing == 0 {
-        return report_text::push(out, failing, 10);
+    report_text::word(text, b"pairs");
+    report_text::number(text, u32::from(v.failing));
+    if let Some(pair) = v.first {
+        report_text::two_numbers(text, pair.first, pair.second);
+        report_text::two_numbers(text, pair.culprit, pair.other);
     }
-    let first = report_text::two_numbers(out, failing, v.first, v.second);
-    let end = report_text::two_numbers(out, first, v.culprit, v.other);
-    report_text::push(out, end, 10)
+    report_text::push(text, b'\n');
 }
 
-fn cleared_line(out: &mut [u8; 512], at: usize, cleared: bool) -> usize
-    requires { at + 12 ≤ 512 }
-    ensures { Added out.old at (cleared_line cleared) 12 out.new result }
+fn cleared_line(text: &mut Text, cleared: bool)
+    requires { length text.old.items + 12 ≤ 512 }
+    ensures { Added (cleared_line cleared) 12 text.old.items text.new.items }
 {
     if cleared {
-        return report_text::word(out, at, b"cleared yes\n");
+        report_text::word(text, b"cleared yes\n");
+    } else {
+        report_text::word(text, b"cleared no\n");
     }
-    report_text::word(out, at, b"cleared no\n")
 }
 
 // The report, but for its marks, and the step bound of all rules of a book that was read.
@@ -81,71 +83,60 @@ fn judged(book: &[u8]) -> Found
     requires { (read_of book.now).number ≡ 0 }
     ensures { FoundOf (table_in book.now) result }
 {
-    let m = report_masks::taken(book);
-    let n = m.n;
-    let watch = m.watch;
-    let reads = m.reads;
-    let writes = m.writes;
-    let precedes = m.precedes;
+    let masks = report_masks::taken(book);
+    let all = mask::below(masks.n);
     let mut marks = [0u8; 496];
-    let v = analysis_masks::rows::judged(n, &watch, &reads, &writes, &precedes, &mut marks);
-    let b = analysis_masks::rows::bound(n, &watch, &writes, mask::below(n));
     Found {
-        summary: v,
-        bound: b.bound,
+        summary: analysis_masks::rows::judged(&masks, &mut marks),
+        bound: analysis_masks::rows::bound(masks.n, &masks.watch, &masks.writes, all).unwrap_or(0),
     }
 }
 
 // The four lines of a book that was read.
-fn four(book: &[u8], out: &mut [u8; 512]) -> usize
+fn four(book: &[u8]) -> Text
     requires { (read_of book.now).number ≡ 0 }
-    ensures { Texted (FourLines (table_in book.now)) out.old out.new result }
+    ensures { FourLines (table_in book.now) result.items }
 {
-    let f = judged(book);
-    let v = f.summary;
-    let first = numbered(out, 0, b"book", book[1], book[2]);
-    let second = ends_line(out, first, v.faulty, f.bound);
-    let third = pairs_line(out, second, v);
-    cleared_line(out, third, v.cleared)
+    let found = judged(book);
+    let mut text = Text::new();
+    numbered(&mut text, b"book", book[1], book[2]);
+    ends_line(&mut text, found.summary.faulty, found.bound);
+    pairs_line(&mut text, &found.summary);
+    cleared_line(&mut text, found.summary.cleared);
+    text
 }
 
 // What is printed for a book that was read, or for one that is refused.
-fn told(a: Answer, book: &[u8], out: &mut [u8; 512]) -> usize
-    requires { a ≡ told (read_of book.now) }
-    ensures { Texted (TextOf (read_of book.now)) out.old out.new result }
+fn told(read: Result<(), Refusal>, book: &[u8]) -> Text
+    requires { answer_of read ≡ told (read_of book.now) }
+    ensures { TextOf (read_of book.now) result.items }
 {
-    if a.number != 0 {
-        return numbered(out, 0, b"refused", a.number, a.place);
+    match read {
+        Ok(()) => four(book),
+        Err(e) => {
+            let mut text = Text::new();
+            numbered(&mut text, b"refused", e.number(), e.place());
+            text
+        }
     }
-    four(book, out)
 }
 
-// Copies the text to the buffer's start, or nothing where it does not fit.
-fn copy(a: Answer, text: &[u8], n: usize, out: &mut [u8]) -> Printed
-    requires { n ≤ length text.now }
-    ensures { (result, out.new) ≡ laid a out.old (take n text.now) }
+// Writes the lines for a book, or nothing where they do not fit, and gives their length, or 0.
+pub fn lines(book: &[u8], out: &mut [u8]) -> Output
+    ensures { LinesSay book.now out.old (printed_of result, out.new) }
 {
+    let read = book_judge::judge(book);
+    let text = told(read, book);
+    let n = text.len();
     if out.len() < n {
-        return Printed {
-            number: a.number,
-            place: a.place,
+        return Output {
+            book: read,
             length: 0,
         };
     }
-    little::put_bytes(out, 0, &text[..n]);
-    Printed {
-        number: a.number,
-        place: a.place,
+    out[..n].copy_from_slice(text.as_slice());
+    Output {
+        book: read,
         length: n,
     }
-}
-
-// Writes the lines for a book, or nothing where they do not fit; gives their length, or 0, and the book's own number and place.
-pub fn lines(book: &[u8], out: &mut [u8]) -> Printed
-    ensures { LinesSay book.now out.old (result, out.new) }
-{
-    let a = book_judge::judge(book);
-    let mut text = [0u8; 512];
-    let n = told(a, book, &mut text);
-    copy(a, &text, n, out)
 }

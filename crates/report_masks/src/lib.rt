@@ -4,34 +4,47 @@
 ghost use Rattle.std.specs.Prelude.{◌≡◌};
 ghost use Rattle.book_judge.specs.Read.{table_in, read_of};
 ghost use Rattle.analysis.specs.TableMasks.{masks_of};
+ghost use Rattle.report_masks.specs.ReportMasksInner.{HasBody, BodyAt};
 
 use analysis_pairs::Masks;
+use little::Little;
+use rule_read::Counts;
+
+// Where a body starts, and its counts.
+#[derive(Clone, Copy)]
+struct Body {
+    at: usize,
+    counts: Counts,
+}
+
+fn body_at(book: &[u8], i: usize) -> Body
+    requires { HasBody book.now i }
+    ensures { BodyAt book.now i result.at result.counts.tests result.counts.assigns }
+{
+    let at = book_judge::start(book, i);
+    Body {
+        at,
+        counts: rule_read::counts_at(book, at),
+    }
+}
 
 // The four rows of masks.
 pub fn taken(book: &[u8]) -> Masks
     requires { (read_of book.now).number ≡ 0 }
     ensures { result ≡ masks_of (table_in book.now) }
 {
-    let n = rule::count(book[1]);
-    let mut watch = [0u32; 32];
-    let mut reads = [0u32; 32];
-    let mut writes = [0u32; 32];
-    let mut precedes = [0u32; 32];
-    for i in 0..n {
-        let at = book_judge::start(book, i);
-        let c = rule_read::counts_at(book, at);
-        let t = c.tests;
-        let a = c.assigns;
-        watch[i] = little::u32_at(book, at);
-        reads[i] = rule_uses::reads(book, at, t, a);
-        writes[i] = rule_uses::writes(book, at, t, a);
-        precedes[i] = little::u32_at(book, at + 4);
-    }
+    let n = usize::from(book[1]);
     Masks {
-        n: n,
-        watch: watch,
-        reads: reads,
-        writes: writes,
-        precedes: precedes,
+        n,
+        watch: mask::row(n, |i| u32::at(book, body_at(book, i).at)),
+        reads: mask::row(n, |i| {
+            let rule = body_at(book, i);
+            rule_uses::reads(book, rule.at, rule.counts.tests, rule.counts.assigns)
+        }),
+        writes: mask::row(n, |i| {
+            let rule = body_at(book, i);
+            rule_uses::writes(book, rule.at, rule.counts.tests, rule.counts.assigns)
+        }),
+        precedes: mask::row(n, |i| u32::at(book, body_at(book, i).at + 4)),
     }
 }

@@ -1,4 +1,3 @@
 -- Laws that `report_text` stands on and passes on to other crates.
 pub mod AddedLaws
-pub mod TextLaws
 pub mod ValueLaws

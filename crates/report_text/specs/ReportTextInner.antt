@@ -1,8 +1,7 @@
 -- What only contracts of inner functions of `report_text` cite.
-use Rattle.std.specs.Prelude.{◌≡◌, List, ◌++◌, ℕ, ◌+◌, ◌≤◌, length, take}
+use Rattle.std.specs.Prelude.{◌≡◌, List, ◌++◌, ℕ, ◌+◌, ◌≤◌, length}
 
--- a text is the first bytes of a buffer: in e it has after the text of d the bytes bs, and is longer by at most m
-pub record Added (d : List ℕ) (at : ℕ) (bs : List ℕ) (m : ℕ) (e : List ℕ) (end : ℕ) : Type 0 where
-  pub text : take end e ≡ take at d ++ bs
-  pub size : length e ≡ length d
-  pub most : end ≤ at + m
+-- the text e is d with the bytes bs at its end, at most m of them
+pub record Added (bs : List ℕ) (m : ℕ) (d e : List ℕ) : Type 0 where
+  pub text : e ≡ d ++ bs
+  pub most : length e ≤ length d + m

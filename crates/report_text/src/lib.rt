@@ -1,76 +1,60 @@
-// A text that grows at its end in a lent buffer: letters, words and numbers. It is the buffer's first `at` bytes, and each function
-// gives where it ends then.
+// Words and numbers, one after another, in a text of at most 512 bytes that lies in the value itself.
 #![tactic(auto)]
 
-ghost use Rattle.std.specs.Prelude.{◌≡◌, ◌∷◌, [], ◌+◌, ◌≤◌, length};
-ghost use Rattle.report_text.specs.Text.{digits_to, spaced, members};
+ghost use Rattle.std.specs.Prelude.{◌∷◌, [], ◌+◌, ◌≤◌, length};
+ghost use Rattle.report_text.specs.Text.{spaced, members};
 ghost use Rattle.report_text.specs.ReportTextInner.{Added};
 
-pub fn wider(x: u16) -> u32
-    ensures { result ≡ x }
-{
-    x as u32
-}
+use arrayvec::ArrayVec;
+use itoa::Buffer;
 
-pub fn word(out: &mut [u8; 512], at: usize, w: &[u8]) -> usize
-    requires { at + length w.now ≤ 512 }
-    ensures { Added out.old at w.now (length w.now) out.new result }
+// `write!` may fail by its contract, and what is printed here never does: so each part is appended.
+pub type Text = ArrayVec<u8, 512>;
+
+// Bytes of any values.
+pub fn word(text: &mut Text, w: &[u8])
+    requires { length text.old.items + length w.now ≤ 512 }
+    ensures { Added w.now (length w.now) text.old.items text.new.items }
 {
-    little::put_bytes(out, at, w);
-    at + w.len()
+    text.try_extend_from_slice(w).unwrap();
 }
 
 // One letter.
-pub fn push(out: &mut [u8; 512], at: usize, x: u8) -> usize
-    requires { at + 1 ≤ 512 }
-    ensures { Added out.old at (x ∷ []) 1 out.new result }
+pub fn push(text: &mut Text, x: u8)
+    requires { length text.old.items + 1 ≤ 512 }
+    ensures { Added (x ∷ []) 1 text.old.items text.new.items }
 {
-    let letter = [x; 1];
-    word(out, at, &letter)
-}
-
-// A number in decimal, of at most f digits.
-fn digits(out: &mut [u8; 512], at: usize, x: u32, f: usize) -> usize
-    requires { at + f ≤ 512 }
-    ensures { Added out.old at (digits_to f x) f out.new result }
-{
-    if f == 0 {
-        return at;
-    }
-    if x < 10 {
-        return push(out, at, 48 + x as u8);
-    }
-    let next = digits(out, at, x / 10, f - 1);
-    push(out, next, 48 + (x % 10) as u8)
+    text.push(x);
 }
 
 // A number after a space.
-pub fn number(out: &mut [u8; 512], at: usize, x: u32) -> usize
-    requires { at + 11 ≤ 512 }
-    ensures { Added out.old at (spaced (x ∷ [])) 11 out.new result }
+#[tactic(auto, using(crate::proofs::AddedLaws::added_number))]
+pub fn number(text: &mut Text, x: u32)
+    requires { length text.old.items + 11 ≤ 512 }
+    ensures { Added (spaced (x ∷ [])) 11 text.old.items text.new.items }
 {
-    let next = push(out, at, b' ');
-    digits(out, next, x, 10)
+    let mut digits = Buffer::new();
+    push(text, b' ');
+    word(text, digits.format(x).as_bytes());
 }
 
-pub fn two_numbers(out: &mut [u8; 512], at: usize, a: u8, b: u8) -> usize
-    requires { at + 22 ≤ 512 }
-    ensures { Added out.old at (spaced (a ∷ b ∷ [])) 22 out.new result }
+pub fn two_numbers(text: &mut Text, a: u8, b: u8)
+    requires { length text.old.items + 22 ≤ 512 }
+    ensures { Added (spaced (a ∷ b ∷ [])) 22 text.old.items text.new.items }
 {
-    let next = number(out, at, rule::wide(a));
-    number(out, next, rule::wide(b))
+    number(text, u32::from(a));
+    number(text, u32::from(b));
 }
 
 // The members of a set upward, each after a space.
-pub fn members(out: &mut [u8; 512], at: usize, m: u32) -> usize
-    requires { at + 352 ≤ 512 }
-    ensures { Added out.old at (spaced (members m)) 352 out.new result }
+pub fn members(text: &mut Text, m: u32)
+    requires { length text.old.items + 352 ≤ 512 }
+    ensures { Added (spaced (members m)) 352 text.old.items text.new.items }
 {
-    let mut end = at;
+    // i is a number that may be a member: what is written is lent, so no closure takes it in turn.
     for i in 0..32 {
         if mask::has(m, i) {
-            end = number(out, end, i as u32);
+            number(text, i as u32);
         }
     }
-    end
 }

@@ -11,20 +11,32 @@ use Rattle.rule.specs.Empty.{no_test, no_assign}
 abbrev pub uses_right : Test → Bool
 uses_right x = eqb x.kind 1
 
--- "Operations: 0 gives K; 1 gives A + K; 2 gives A + B; 3 gives A - B; 4 gives A x p / q"
-abbrev pub uses_k : Assign → Bool
-uses_k x = leb x.operation 1
+-- "Operations: 0 gives K; 1 gives A + K; 2 gives A + B; 3 gives A - B; 4 gives A x p / q": what the operation with a code uses; "an
+-- unknown code uses none of them"
+abbrev pub k_used : ℕ → Bool
+k_used code = leb code 1
 
--- "an unknown code uses none of them"
-abbrev pub uses_a : Assign → Bool
-uses_a x = leb 1 x.operation && leb x.operation 4
+abbrev pub a_used : ℕ → Bool
+a_used code = leb 1 code && leb code 4
 
-abbrev pub uses_b : Assign → Bool
-uses_b x = eqb x.operation 2 || eqb x.operation 3
+abbrev pub b_used : ℕ → Bool
+b_used code = eqb code 2 || eqb code 3
 
 -- p and q
+abbrev pub p_used : ℕ → Bool
+p_used code = eqb code 4
+
+abbrev pub uses_k : Assign → Bool
+uses_k x = k_used x.operation
+
+abbrev pub uses_a : Assign → Bool
+uses_a x = a_used x.operation
+
+abbrev pub uses_b : Assign → Bool
+uses_b x = b_used x.operation
+
 abbrev pub uses_p : Assign → Bool
-uses_p x = eqb x.operation 4
+uses_p x = p_used x.operation
 
 -- the rule's test j and assignment j
 abbrev pub test_at : Rule → ℕ → Test

@@ -1,17 +1,19 @@
 -- The parts of a rule where they lie, its right sides one by one, and the cells that differ, one by one.
 use mathlib.Core.Path.{◌≡◌, refl, sym, ap, ap₂, ◌∙◌, subst}
 use mathlib.Core.Bool.{Bool, true, false, cond, ◌&&◌, ◌||◌, or-false}
-use mathlib.Core.List.{List}
-use Prim.Native.Nat.{ℕ, ◌+◌, ◌*◌, ◌<◌, ◌^◌}
-use native.Mathlib.Nat.{lt_irrefl, not-suc-le-zero}
+use mathlib.Core.List.{List, ◌++◌}
+use Prim.Native.Nat.{ℕ, ◌+◌, ◌*◌, ◌≤◌, ◌<◌, ◌^◌}
+use native.Mathlib.Nat.{lt_irrefl}
 use native.Mathlib.Numerals.{add-one}
 use native.Mathlib.Omega.{arith}
 use lib.Dec.{eqb, lit<}
-use lib.ListN.{length, set}
+use lib.ListN.{length, set, get_or-append}
 use lib.Seq.{get_or-set_same, get_or-set_other}
 use lib.IntN.{ℤ, pos}
 use borrow.Author.Count.{below_more}
 use borrow.Author.Tests.{eqb-true}
+use Rattle.mask.specs.Search.{some}
+use Rattle.mask.proofs.SearchLaws.{some_same}
 use Rattle.mask.specs.Mask.{has}
 use Rattle.mask.proofs.BitsLaws.{has-zero}
 use Rattle.mask.proofs.LoopsLaws.{mask_of-unique}
@@ -22,8 +24,9 @@ use Rattle.rule.proofs.FillLaws.{get_or-filled}
 use Rattle.rule.specs.Uses.{test_at, assign_at}
 use Rattle.rule_read.specs.Parts.{test_in, assign_in}
 use Rattle.rule_sums.specs.Sums.{at, value_of, differs}
-use Rattle.rule_act.specs.Amounts.{stored_by}
-use Rattle.rule_act.specs.RuleActInner.{changes, changed_cells, Steppable, slot_rule, SidesSoFar, Put, Stored}
+use Rattle.rule.specs.Numbers.{out_of_range}
+use Rattle.rule_act.specs.Amounts.{any_out, stored_by}
+use Rattle.rule_act.specs.RuleActInner.{changes, changed_cells, Steppable, slot_rule, SidesSoFar, RightSides, Put, Stored}
 use Rattle.rule_act.proofs.AmountsLaws.{at_set, length-stored, stored_next}
 use Rattle.rule_sums.proofs.PenceLaws.{alike}
 
@@ -37,11 +40,8 @@ module _ (s : List ℕ) (i j : ℕ) (l : j < 8) where
       ap (assign_in s) (omega arith)
       ∙ sym (get_or-filled 8 no_assign (λ x. assign_in s (i + 12 + 12 * 8 + 20 * x)) 8 no_assign j l)
 
--- no right side yet, and one more
+-- one right side more
 module _ (r : Rule) (before : List ℤ) where
-  pub sides-none : (values : List ℤ) → SidesSoFar r before 0 values
-  sides-none values = record { each = λ j l. absurd (not-suc-le-zero l) }
-
   pub sides-more : (n : ℕ) (values : List ℤ) (v : ℤ) → n < length values → v ≡ value_of (assign_at r n) before
       → SidesSoFar r before n values → SidesSoFar r before (n + 1) (set values n v)
   sides-more n values v l e h =
@@ -49,6 +49,20 @@ module _ (r : Rule) (before : List ℤ) where
         each = below_more (λ j. at (set values n v) j ≡ value_of (assign_at r j) before) n
             (λ j m. get_or-set_other values n j v (pos 0) (λ z. lt_irrefl j (omega arith)) ∙ h.each j m)
             (get_or-set_same values n v (pos 0) l ∙ e);
+      }
+
+  -- all of them, with whatever stands past them in the row
+  pub sides-all : (n : ℕ) (values rest : List ℤ) (bad : Bool) → length values ≡ r.a → r.a ≤ n → SidesSoFar r before n values
+      → bad ≡ some (length values) (λ j. out_of_range (at values j)) → RightSides r before (values ++ rest) bad
+  unfolding any_out
+  sides-all n values rest bad e m h found =
+      record {
+        out =
+            found
+            ∙ (ap (λ (k : ℕ). some k (λ j. out_of_range (at values j))) e
+            ∙ some_same r.a (λ j. out_of_range (at values j)) (λ j. out_of_range (value_of (assign_at r j) before))
+            (λ j l. ap out_of_range (h.each j (omega arith))));
+        sides = record { each = λ j l. get_or-append values rest (pos 0) j (omega arith) ∙ h.each j (omega arith) };
       }
 
 -- cells that hold what they held differ nowhere

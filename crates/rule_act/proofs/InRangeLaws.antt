@@ -1,13 +1,14 @@
 -- A rule to which no number applies can be stepped.
 use mathlib.Core.Path.{◌≡◌}
-use mathlib.Core.Bool.{Bool, true, false, not, ◌&&◌, ◌||◌, false≢true, cond}
+use mathlib.Core.Bool.{Bool, true, false, not, ◌&&◌, ◌||◌, cond}
 use mathlib.Core.List.{List}
 use Prim.Native.Nat.{ℕ, ◌≤◌, ◌<◌}
 use native.Mathlib.Nat.{le_trans}
 use native.Mathlib.Omega.{arith}
-use lib.Dec.{ltb, eqb}
+use lib.Dec.{ltb}
 use lib.ListN.{get_or}
-use borrow.Author.Tests.{lt-ltb, ltb-false, eqb-true, eq-eqb, not-false}
+use borrow.Author.Tests.{lt-ltb, eq-eqb}
+use Rattle.std.proofs.lemmas.Bool.Decides.{nat_tests}
 use Rattle.mask.specs.Search.{some}
 use Rattle.mask.proofs.SearchLaws.{some_false, or_false_both}
 use Rattle.rule.specs.declared.Assign.{Assign}
@@ -22,28 +23,14 @@ use Rattle.rule_act.specs.RuleActInner.{Steppable}
 
 -- ---- 7: the constants are in bounds
 
-unused : (x : ℕ) → not_zero x ≡ false → x ≡ 0
-unused x e = eqb-true x 0 (not-false (eqb x 0) e)
-
 -- the third, the sixth and the seventh test
 tests_false : (a b c d e f g : Bool) → (a || b || c || d || e || f || g) ≡ false
     → (c ≡ false) × (f ≡ false) × (g ≡ false)
-tests_false a b c d e f g z =
-    let u = or_false_both (a || b || c || d || e || f) g z in
-    let v = or_false_both (a || b || c || d || e) f u.0 in
-    let w = or_false_both (a || b || c || d) e v.0 in
-    let x = or_false_both (a || b || c) d w.0 in
-    ((or_false_both (a || b) c x.0).1, v.1, u.1)
+tests_false a b c d e f g z = (grind arith, grind arith, grind arith)
 
 factor : (p q : ℕ) (uses : Bool) → (not uses && (not_zero p || not_zero q)) ≡ false
     → (uses && (ltb 1000000 p || ltb q 1 || ltb 1000000 q)) ≡ false → (p ≤ 1000000) × (uses ≡ true → 1 ≤ q)
-factor p q true f g =
-    let u = or_false_both (ltb 1000000 p || ltb q 1) (ltb 1000000 q) g in
-    let v = or_false_both (ltb 1000000 p) (ltb q 1) u.0 in
-    (ltb-false 1000000 p v.0, λ e. ltb-false q 1 v.1)
-factor p q false f g =
-    let z : p ≡ 0 = unused p (or_false_both (not_zero p) (not_zero q) f).0 in
-    (omega arith, λ e. absurd (false≢true e))
+factor p q uses f g = (grind (arith, nat_tests), λ e. grind (arith, nat_tests))
 
 bounded : (x : Assign) → assign_form_bad x ≡ false → InBounds x
 bounded x f =
@@ -56,8 +43,7 @@ bounded x f =
 
 -- slot j of those counted
 counted-slot : (c f s : Bool) → cond c f s ≡ false → c ≡ true → f ≡ false
-counted-slot true f s e h = e
-counted-slot false f s e h = absurd (false≢true h)
+counted-slot c f s e h = grind arith
 
 forms_in_lem : (r : Rule) → forms_bad r ≡ false → (j : ℕ) → j < 8 → j < r.a → assign_form_bad (assign_at r j) ≡ false
 unfolding forms_bad

@@ -1,5 +1,5 @@
 -- What only contracts of inner functions of `rule_act` cite.
-use Rattle.std.specs.Prelude.{◌≡◌, Bool, false, ◌||◌, ◌&&◌, List, ℕ, ◌≤◌, ◌<◌, ◌+◌, eqb, set, length, ℤ}
+use Rattle.std.specs.Prelude.{◌≡◌, Bool, true, false, ◌||◌, ◌&&◌, List, ℕ, ◌≤◌, ◌<◌, ◌+◌, eqb, set, length, ℤ, Result, MatchResult}
 use Rattle.mask.specs.Mask.{mask_of, has}
 use Rattle.rule.specs.declared.Rule.{Rule}
 use Rattle.rule.specs.Uses.{assign_at}
@@ -41,6 +41,11 @@ pub record SidesSoFar (r : Rule) (before : List ℤ) (n : ℕ) (values : List �
 pub record RightSides (r : Rule) (before values : List ℤ) (bad : Bool) : Type 0 where
   pub out : bad ≡ any_out r before
   pub sides : SidesSoFar r before r.a values
+
+-- `Ok` has them where none is out of range, `Err` where one is
+abbrev pub SidesIn : Rule → List ℤ → Result (List ℤ) (List ℤ) → Type 0
+SidesIn r before found =
+    MatchResult found (λ values. RightSides r before values false) (λ values. RightSides r before values true)
 
 -- cell c holds v, and q has c beside the members of m where that differs from before
 pub record Put (before : List ℤ) (c : ℕ) (v : ℤ) (m : ℕ) (after : List ℤ) (q : ℕ) : Type 0 where

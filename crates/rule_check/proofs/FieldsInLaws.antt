@@ -1,14 +1,15 @@
 -- 6 to 9 of a rule are those of the bytes where it lies: the slots that are filled hold what stands there. So its number is told by
 -- the bytes.
-use mathlib.Core.Path.{◌≡◌, refl, sym, ap₂}
+use mathlib.Core.Path.{◌≡◌, refl, sym, ap, ap₂, ◌∙◌}
 use mathlib.Core.Bool.{Bool, true, false, not, ◌&&◌, ◌||◌, cond}
 use mathlib.Core.List.{List}
-use Prim.Native.Nat.{ℕ, ◌+◌, ◌*◌, ◌<◌}
+use Prim.Native.Nat.{ℕ, ◌+◌, ◌-◌, ◌*◌, ◌≤◌, ◌<◌}
 use native.Mathlib.Nat.{le_trans}
 use native.Mathlib.Omega.{arith}
-use lib.Dec.{eqb}
+use lib.Dec.{eqb, ltb}
 use Rattle.mask.specs.Search.{some}
-use Rattle.mask.proofs.SearchLaws.{some_same}
+use borrow.Author.Tests.{le-ltb, ltb-false, not-true}
+use Rattle.mask.proofs.SearchLaws.{some_same, same_test, some_intro, some-elim, and_true_both}
 use Rattle.mask.specs.Mask.{beyond}
 use Rattle.rule.specs.declared.Rule.{Rule}
 use Rattle.rule.specs.declared.Test.{Test}
@@ -20,6 +21,22 @@ use Rattle.rule.specs.Numbers.{not_zero, test_cell_bad, assign_cell_bad, test_fo
 use Rattle.little.specs.Little.{byte_at, u32_at}
 use Rattle.rule_read.specs.Parts.{test_in, assign_in, rule_of}
 use Rattle.rule_check.specs.RuleCheckInner.{Fitted, Lies, cells_in, forms_in, twice_in, letters_in, number_with}
+
+-- what is found from a on is what is found below b and not before a
+pub some_past : (a b : ℕ) (f : ℕ → Bool) → some (b - a) (λ i. f (a + i)) ≡ some b (λ j. not (ltb j a) && f j)
+some_past a b f = same_test (some (b - a) (λ i. f (a + i))) (some b (λ j. not (ltb j a) && f j)) there back
+  where
+    there : some (b - a) (λ i. f (a + i)) ≡ true → some b (λ j. not (ltb j a) && f j) ≡ true
+    there e =
+        let x = some-elim (b - a) (λ i. f (a + i)) e in
+        some_intro b (λ j. not (ltb j a) && f j) (a + x.at) (omega (arith, x.lt)) (ap₂ (λ (u v : Bool). not u && v) (le-ltb (a + x.at) a (omega arith)) x.is)
+
+    back : some b (λ j. not (ltb j a) && f j) ≡ true → some (b - a) (λ i. f (a + i)) ≡ true
+    back e =
+        let x = some-elim b (λ j. not (ltb j a) && f j) e in
+        let p = and_true_both (not (ltb x.at a)) (f x.at) x.is in
+        let l : a ≤ x.at = ltb-false x.at a (not-true (ltb x.at a) p.0) in
+        some_intro (b - a) (λ i. f (a + i)) (x.at - a) (omega (arith, l, x.lt)) (ap f (omega (arith, l)) ∙ p.1)
 
 module _ (s : List ℕ) (i t a m : ℕ) (h : Fitted s i t a m) where
   abbrev rule : Rule

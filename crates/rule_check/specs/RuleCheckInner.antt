@@ -1,5 +1,7 @@
 -- What only contracts of inner functions of `rule_check` cite: 5 to 9 of a rule by the bytes where it lies.
-use Rattle.std.specs.Prelude.{◌≡◌, false, Bool, not, ◌&&◌, ◌||◌, cond, List, ℕ, ◌+◌, ◌≤◌, ◌*◌, ltb, eqb, get_or}
+use Rattle.std.specs.Prelude.{◌≡◌, false, Bool, not, ◌&&◌, ◌||◌, cond, List, ℕ, ◌+◌, ◌≤◌, ◌*◌, ltb, eqb, nat_eq}
+use Rattle.std.specs.List.{list_any}
+use Rattle.std.specs.Cmp.Lexicographic.{pointwise}
 use Rattle.mask.specs.Search.{some}
 use Rattle.mask.specs.First.{first_of}
 use Rattle.mask.specs.Mask.{beyond}
@@ -59,9 +61,9 @@ twice_in s i t = some (byte_at s (i + 9)) (taken_at s (i + 12 + 12 * t))
 abbrev pub letters_in : List ℕ → ℕ → ℕ → ℕ → Bool
 letters_in s i t a = some (byte_at s (i + 10)) (λ j. letter_bad (byte_at s (i + 12 + 12 * t + 20 * a + j)))
 
--- one of the first i names of the row is the name of the numbers low and high
-unfoldable pub taken_in : List ℕ → ℕ → ℕ → ℕ → Bool
-taken_in names i low high = some i (λ h. eqb (get_or names (2 * h) 0) low && eqb (get_or names (2 * h + 1) 0) high)
+-- one of the names is this one, letter by letter
+unfoldable pub taken_in : List (List ℕ) → List ℕ → Bool
+taken_in names name = list_any (λ x. pointwise nat_eq x name) names
 
 -- the number of a rule whose name is `taken` by an earlier one, or is not
 unfoldable pub number_with : ℕ → ℕ → Bool → Rule → ℕ

@@ -1,28 +1,32 @@
 // The numbers 5 to 9 of a rule where its bytes lie, in a table or in a book.
 #![tactic(auto)]
 
-ghost use Rattle.std.specs.Prelude.{◌≡◌, ◌+◌, ◌*◌, ◌≤◌, ◌<◌, length};
+ghost use Rattle.std.specs.Prelude.{◌≡◌, ◌+◌, ◌*◌, ◌≤◌, ◌<◌, ltb, cond, length};
 ghost use Rattle.mask.specs.Search.{some};
-ghost use Rattle.rule.specs.Numbers.{test_cell_bad, assign_cell_bad, letter_bad, counts_bad};
+ghost use Rattle.rule.specs.Numbers.{letter_bad, counts_bad};
 ghost use Rattle.mask.specs.Mask.{beyond};
 ghost use Rattle.little.specs.Little.{byte_at, u32_at};
-ghost use Rattle.rule_read.specs.Parts.{test_in, assign_in, rule_of};
-ghost use Rattle.rule_check.specs.RuleCheckInner.{Lies, Fitted, test_bad, assign_bad, letter_left, taken_at, taken_in};
+ghost use Rattle.refusal.specs.RefusalNumbers.{fault_of};
+ghost use Rattle.rule_read.specs.Parts.{rule_of};
+ghost use Rattle.rule_check.specs.RuleCheckInner.{Lies, Fitted, letter_left, taken_at, taken_in};
 ghost use Rattle.rule_check.specs.RuleCheckInner.{cells_in, forms_in, twice_in, letters_in, number_with};
 
-// Whether one of the first i names of the row is this one.
-pub fn taken(names: &[u64; 64], i: usize, low: u64, high: u64) -> bool
-    requires { i ≤ 32 }
-    ensures { result ≡ taken_in names.now i low high }
+use little::Little;
+use refusal::Fault;
+use rule::{Assign, Test};
+use rule_fields::Checked;
+use rule_read::{Counts, Part};
+
+// Whether a rule's name is that of an earlier one.
+#[tactic(auto, unfolding(crate::specs::RuleCheckInner::taken_in))]
+pub fn taken(names: &[[u8; 16]], name: &[u8; 16]) -> bool
+    ensures { result ≡ taken_in names.now name.now }
 {
-    let mut found = false;
-    for h in 0..i {
-        found = ((names[2 * h] == low) & (names[2 * h + 1] == high)) | found;
-    }
-    found
+    names.contains(name)
 }
 
 // 5 of the rule whose head is at `at`.
+#[tactic(auto, unfolding(rule::specs::Numbers::counts_bad))]
 pub fn counts_bad(s: &[u8], at: usize) -> bool
     requires { at + 12 ≤ length s.now }
     ensures { result ≡ counts_bad (rule_of s.now at 0 0 0) }
@@ -34,80 +38,43 @@ pub fn counts_bad(s: &[u8], at: usize) -> bool
     (8 < t) | (8 < a) | (m < 1) | (16 < m) | (z != 0)
 }
 
-fn test_cells_bad(s: &[u8], p: usize, t: usize, k: u8) -> bool
-    requires { (t ≤ 8) × (p + 12 * t ≤ length s.now) }
-    ensures { result ≡ some t (λ j. test_cell_bad k (test_in s.now (p + 12 * j))) }
+// Whether one of the n parts from p on uses a cell that is k or more.
+fn any_cell_bad<P: Checked>(s: &[u8], p: usize, n: usize, k: u8) -> bool
+    requires { (n ≤ 8) × (p + P.Part.SIZE * n ≤ length s.now) }
+    ensures { result ≡ some n (λ j. P.cell_bad k (P.Part.held s.now (p + P.Part.SIZE * j))) }
 {
-    let mut bad = false;
-    for j in 0..t {
-        let x = rule_read::read_test(s, p + 12 * j);
-        bad = rule_fields::test_cell_bad(x, k) | bad;
-    }
-    bad
+    let size = P::SIZE;
+    (0..n).any(|j| P::read(s, p + size * j).cell_bad(k))
 }
 
-fn assign_cells_bad(s: &[u8], p: usize, a: usize, k: u8) -> bool
-    requires { (a ≤ 8) × (p + 20 * a ≤ length s.now) }
-    ensures { result ≡ some a (λ j. assign_cell_bad k (assign_in s.now (p + 20 * j))) }
+// Whether one of the slots from p on is bad, where n parts are counted and the others are empty.
+fn any_form_bad<P: Checked>(s: &[u8], p: usize, n: usize, room: usize) -> bool
+    requires { (room ≤ 8) × (p + P.Part.SIZE * room ≤ length s.now) }
+    ensures { result ≡ some room
+        (λ j. cond (ltb j n)
+        (P.form_bad (P.Part.held s.now (p + P.Part.SIZE * j)))
+        (P.slot_bad (P.Part.held s.now (p + P.Part.SIZE * j)))) }
 {
-    let mut bad = false;
-    for j in 0..a {
-        let x = rule_read::read_assign(s, p + 20 * j);
-        bad = rule_fields::assign_cell_bad(x, k) | bad;
-    }
-    bad
+    let size = P::SIZE;
+    (0..room).any(|j| {
+        let x = P::read(s, p + size * j);
+        if j < n { x.form_bad() } else { x.slot_bad() }
+    })
 }
 
-fn test_forms_bad(s: &[u8], p: usize, t: usize, room: usize) -> bool
-    requires { (room ≤ 8) × (p + 12 * room ≤ length s.now) }
-    ensures { result ≡ some room (test_bad s.now p t) }
-{
-    let mut bad = false;
-    for j in 0..room {
-        let x = rule_read::read_test(s, p + 12 * j);
-        let counted = j < t;
-        bad = ((counted & rule_fields::test_form_bad(x))
-            | (!counted & rule_fields::test_slot_bad(x)))
-            | bad;
-    }
-    bad
-}
-
-fn assign_forms_bad(s: &[u8], p: usize, a: usize, room: usize) -> bool
-    requires { (room ≤ 8) × (p + 20 * room ≤ length s.now) }
-    ensures { result ≡ some room (assign_bad s.now p a) }
-{
-    let mut bad = false;
-    for j in 0..room {
-        let x = rule_read::read_assign(s, p + 20 * j);
-        let counted = j < a;
-        bad = ((counted & rule_fields::assign_form_bad(x))
-            | (!counted & rule_fields::assign_slot_bad(x)))
-            | bad;
-    }
-    bad
-}
-
-fn letters_left(s: &[u8], p: usize, m: usize, room: usize) -> bool
+// Whether a letter past the name is not 0.
+fn any_letter_left(s: &[u8], p: usize, m: usize, room: usize) -> bool
     requires { (room ≤ 16) × (p + room ≤ length s.now) }
     ensures { result ≡ some room (letter_left s.now p m) }
 {
-    let mut bad = false;
-    for j in 0..room {
-        bad = (!(j < m) & (s[p + j] != 0)) | bad;
-    }
-    bad
+    (m..room).any(|j| s[p + j] != 0)
 }
 
-fn letters_bad(s: &[u8], p: usize, m: usize) -> bool
+fn any_letter_bad(s: &[u8], p: usize, m: usize) -> bool
     requires { (m ≤ 16) × (p + m ≤ length s.now) }
     ensures { result ≡ some m (λ j. letter_bad (byte_at s.now (p + j))) }
 {
-    let mut bad = false;
-    for j in 0..m {
-        bad = rule_fields::letter_bad(s[p + j]) | bad;
-    }
-    bad
+    s[p..p + m].iter().any(|b| rule_fields::letter_bad(*b))
 }
 
 // Whether assignment j has the target of an earlier one.
@@ -115,23 +82,14 @@ fn target_taken(s: &[u8], p: usize, j: usize) -> bool
     requires { (j < 8) × (p + 20 * j < length s.now) }
     ensures { result ≡ taken_at s.now p j }
 {
-    let y = s[p + 20 * j];
-    let mut bad = false;
-    for i in 0..j {
-        bad = (s[p + 20 * i] == y) | bad;
-    }
-    bad
+    (0..j).any(|i| s[p + 20 * i] == s[p + 20 * j])
 }
 
-fn targets_twice(s: &[u8], p: usize, a: usize) -> bool
+fn any_target_taken(s: &[u8], p: usize, a: usize) -> bool
     requires { (a ≤ 8) × (p + 20 * a ≤ length s.now) }
     ensures { result ≡ some a (taken_at s.now p) }
 {
-    let mut bad = false;
-    for j in 0..a {
-        bad = target_taken(s, p, j) | bad;
-    }
-    bad
+    (0..a).any(|j| target_taken(s, p, j))
 }
 
 // Whether the mask at `at` has a member that is n or more.
@@ -139,75 +97,104 @@ fn mask_beyond(s: &[u8], at: usize, n: u8) -> bool
     requires { (at + 4 ≤ length s.now) × (n ≤ 32) }
     ensures { result ≡ beyond (u32_at s.now at) n }
 {
-    mask::beyond(little::u32_at(s, at), rule::count(n))
+    mask::beyond(u32::at(s, at), usize::from(n))
 }
 
-// 6 of the rule whose head is at `at`, with room for t tests, a assignments and m letters after it.
-fn cells_in(s: &[u8], at: usize, t: usize, a: usize, m: usize, n: u8, k: u8) -> bool
-    requires { Fitted s.now at t a m × (n ≤ 32) × (k ≤ 32) }
-    ensures { result ≡ cells_in s.now at t n k }
-{
-    let ct = rule_read::count_at(s, at + 8);
-    let ca = rule_read::count_at(s, at + 9);
-    mask_beyond(s, at, k)
-        | mask_beyond(s, at + 4, n)
-        | test_cells_bad(s, at + 12, ct, k)
-        | assign_cells_bad(s, at + 12 + 12 * t, ca, k)
+// A rule where it lies: its head is at `at`, with room for so many tests, assignments and letters after it.
+#[derive(Clone, Copy)]
+struct Laid<'a> {
+    s: &'a [u8],
+    at: usize,
+    room: Counts,
+    ghost fitted: { Fitted s.now at room.tests room.assigns room.letters },
 }
 
-// 7 of that rule.
-fn forms_in(s: &[u8], at: usize, t: usize, a: usize, m: usize) -> bool
-    requires { Fitted s.now at t a m }
-    ensures { result ≡ forms_in s.now at t a m }
-{
-    let ct = rule_read::count_at(s, at + 8);
-    let ca = rule_read::count_at(s, at + 9);
-    let cm = rule_read::count_at(s, at + 10);
-    test_forms_bad(s, at + 12, ct, t)
-        | assign_forms_bad(s, at + 12 + 12 * t, ca, a)
-        | letters_left(s, at + 12 + 12 * t + 20 * a, cm, m)
+impl Laid<'_> {
+    // Where its tests, its assignments and its name stand.
+    fn tests(&self) -> usize
+        ensures { result ≡ self.now.at + 12 }
+    {
+        self.at + 12
+    }
+
+    fn assigns(&self) -> usize
+        ensures { result ≡ self.now.at + 12 + 12 * self.now.room.tests }
+    {
+        self.at + 12 + 12 * self.room.tests
+    }
+
+    fn name(&self) -> usize
+        ensures { result ≡ self.now.at + 12 + 12 * self.now.room.tests + 20 * self.now.room.assigns }
+    {
+        self.at + 12 + 12 * self.room.tests + 20 * self.room.assigns
+    }
+
+    // 6.
+    fn cells_bad(&self, n: u8, k: u8) -> bool
+        requires { (n ≤ 32) × (k ≤ 32) }
+        ensures { result ≡ cells_in self.now.s.now self.now.at self.now.room.tests n k }
+    {
+        let counts = rule_read::counts_at(self.s, self.at);
+        mask_beyond(self.s, self.at, k)
+            | mask_beyond(self.s, self.at + 4, n)
+            | any_cell_bad::<Test>(self.s, self.tests(), counts.tests, k)
+            | any_cell_bad::<Assign>(self.s, self.assigns(), counts.assigns, k)
+    }
+
+    // 7.
+    fn forms_bad(&self) -> bool
+        ensures { result ≡ forms_in self.now.s.now self.now.at self.now.room.tests self.now.room.assigns self.now.room.letters }
+    {
+        let counts = rule_read::counts_at(self.s, self.at);
+        any_form_bad::<Test>(self.s, self.tests(), counts.tests, self.room.tests)
+            | any_form_bad::<Assign>(self.s, self.assigns(), counts.assigns, self.room.assigns)
+            | any_letter_left(self.s, self.name(), counts.letters, self.room.letters)
+    }
+
+    // 8.
+    fn twice(&self) -> bool
+        ensures { result ≡ twice_in self.now.s.now self.now.at self.now.room.tests }
+    {
+        any_target_taken(
+            self.s,
+            self.assigns(),
+            rule_read::count_at(self.s, self.at + 9),
+        )
+    }
+
+    // 9, first half.
+    fn letters_bad(&self) -> bool
+        ensures { result ≡ letters_in self.now.s.now self.now.at self.now.room.tests self.now.room.assigns }
+    {
+        any_letter_bad(
+            self.s,
+            self.name(),
+            rule_read::count_at(self.s, self.at + 10),
+        )
+    }
 }
 
-// 8 of that rule.
-fn twice_in(s: &[u8], at: usize, t: usize, a: usize, m: usize) -> bool
-    requires { Fitted s.now at t a m }
-    ensures { result ≡ twice_in s.now at t }
-{
-    targets_twice(s, at + 12 + 12 * t, rule_read::count_at(s, at + 9))
-}
-
-// 9 of that rule, first half.
-fn letters_in(s: &[u8], at: usize, t: usize, a: usize, m: usize) -> bool
-    requires { Fitted s.now at t a m }
-    ensures { result ≡ letters_in s.now at t a }
-{
-    letters_bad(
-        s,
-        at + 12 + 12 * t + 20 * a,
-        rule_read::count_at(s, at + 10),
-    )
-}
-
-// Its number, or 0, where it is known whether an earlier rule has its name.
+// What is wrong first with the rule that lies there, where it is known whether an earlier rule has its name.
 #[tactic(auto, using(crate::proofs::FieldsInLaws::numbered))]
-pub fn number_in(s: &[u8], at: usize, t: usize, a: usize, m: usize, n: u8, k: u8, taken: bool) -> u8
-    requires { Lies s.now at t a m × (n ≤ 32) × (k ≤ 32) }
-    ensures { result ≡ number_with n k taken (rule_of s.now at t a m) }
+pub fn number_in(s: &[u8], at: usize, room: Counts, n: u8, k: u8, taken: bool) -> Result<(), Fault>
+    requires { Lies s.now at room.tests room.assigns room.letters × (n ≤ 32) × (k ≤ 32) }
+    ensures { fault_of result ≡ number_with n k taken (rule_of s.now at room.tests room.assigns room.letters) }
 {
     if counts_bad(s, at) {
-        return 5;
+        return Err(Fault::Counts);
     }
-    if cells_in(s, at, t, a, m, n, k) {
-        return 6;
+    let rule = Laid { s, at, room };
+    if rule.cells_bad(n, k) {
+        return Err(Fault::Cells);
     }
-    if forms_in(s, at, t, a, m) {
-        return 7;
+    if rule.forms_bad() {
+        return Err(Fault::Forms);
     }
-    if twice_in(s, at, t, a, m) {
-        return 8;
+    if rule.twice() {
+        return Err(Fault::Twice);
     }
-    if letters_in(s, at, t, a, m) | taken {
-        return 9;
+    if rule.letters_bad() | taken {
+        return Err(Fault::Name);
     }
-    0
+    Ok(())
 }

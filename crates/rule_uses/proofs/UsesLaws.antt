@@ -1,37 +1,14 @@
--- One cell as a set, and tests taken out of a choice.
-use mathlib.Core.Path.{◌≡◌, refl, sym, ap, ap₂, ◌∙◌}
+-- Tests taken out of a choice and out of a search.
+use mathlib.Core.Path.{◌≡◌, refl, sym, ap, ◌∙◌}
 use mathlib.Core.Bool.{Bool, true, false, ◌&&◌, ◌||◌, false≢true}
-use Prim.Native.Nat.{ℕ, ◌≤◌, ◌<◌}
-use native.Mathlib.Omega.{arith}
-use lib.Dec.{eqb, ltb}
+use Prim.Native.Nat.{ℕ, ◌≤◌}
 use lib.ListN.{get_or}
-use borrow.Author.Tests.{lt-ltb, eqb-true, ltb-true}
 use Rattle.mask.specs.Search.{some}
-use Rattle.mask.proofs.SearchLaws.{same_test, and_true_both, Found, some-elim}
+use Rattle.mask.proofs.SearchLaws.{same_test, Found, some-elim}
 use Rattle.rule.specs.Fill.{filled}
 use Rattle.rule.proofs.FillLaws.{some-filled}
 
--- a cell below 32 is below 32
-pub low : (c : ℕ) → c < 32 → (x : ℕ) → eqb x c ≡ (ltb x 32 && eqb x c)
-low c l x =
-    same_test (eqb x c) (ltb x 32 && eqb x c)
-    (λ e. ap₂ ◌&&◌ (lt-ltb x 32 (omega (arith, eqb-true x c e))) e)
-    (λ e. (and_true_both (ltb x 32) (eqb x c) e).1)
-
--- and one that is not is no x below 32
-pub high : (c : ℕ) → 32 ≤ c → (x : ℕ) → false ≡ (ltb x 32 && eqb x c)
-high c l x =
-    same_test false (ltb x 32 && eqb x c) (λ e. absurd (false≢true e))
-    (λ e.
-    let p = and_true_both (ltb x 32) (eqb x c) e in
-    absurd (omega (arith, ltb-true x 32 p.0, eqb-true x c p.1)))
-
 -- a test of both parts of a choice, taken out
-pub out : (l a b c : Bool) → ((l && a) || (b && (l && c))) ≡ (l && (a || (b && c)))
-out true a b c = refl
-out false a true c = refl
-out false a false c = refl
-
 pub out_both : (l a b c d : Bool) → ((a && (l && b)) || (c && (l && d))) ≡ (l && ((a && b) || (c && d)))
 out_both true a b c d = refl
 out_both false true b true d = refl

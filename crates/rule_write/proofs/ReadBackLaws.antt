@@ -17,13 +17,13 @@ use Rattle.rule.specs.declared.Assign.{Assign}
 use Rattle.rule.specs.declared.Rule.{Rule}
 use Rattle.rule.specs.Empty.{no_test, no_assign}
 use Rattle.rule.specs.Fill.{filled}
-use Rattle.rule.proofs.FillLaws.{get_or-upto, length-upto}
+use Rattle.rule.proofs.FillLaws.{get_or-upto, length-upto, slots_are}
 use Rattle.rule_read.specs.Parts.{test_in, assign_in, name_in, rule_of}
 use Rattle.rule_write.specs.Pieces.{test_bytes, tests_bytes, assign_bytes, assigns_bytes, name_bytes, head_bytes, rule_bytes}
 use Rattle.rule_write.proofs.LengthsLaws.{length-test, length-tests, length-assign, length-assigns}
 use Rattle.rule_write.specs.HeldRule.{HeldAssign, HeldRule}
 use Rattle.rule_write.proofs.HeldRuleLaws.{EmptyPast}
-use Rattle.rule_write.proofs.RowsBytesLaws.{slots_are, rows-read}
+use Rattle.rule_write.proofs.RowsBytesLaws.{rows-read}
 
 module _ (s : List ℕ) where
   pub test_read : (i : ℕ) (x : Test) → SFits w64 x.constant → Stands s i (test_bytes x) → test_in s i ≡ x

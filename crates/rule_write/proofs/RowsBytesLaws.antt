@@ -1,28 +1,15 @@
 -- Rows of w bytes each, as they are read into N slots: the law for tests and for assignments.
-use mathlib.Core.Path.{◌≡◌, sym, ap, ◌∙◌, subst}
-use mathlib.Core.Logic.{⊎_elim}
+use mathlib.Core.Path.{◌≡◌, sym, ap, subst}
 use mathlib.Core.List.{List}
 use Prim.Native.Nat.{ℕ, suc, ◌+◌, ◌*◌, ◌≤◌, ◌<◌}
 use native.Mathlib.Nat.{mul-le-mul_left, mul-suc}
 use native.Mathlib.Omega.{arith}
 use lib.ListN.{length, get_or}
-use lib.Seq.{ext_get_or}
-use Rattle.mask.proofs.SearchLaws.{lt-or_ge}
 use Rattle.little.proofs.StandsLaws.{Stands}
 use Rattle.little.specs.Joined.{joined}
 use Rattle.little.proofs.JoinedLaws.{length-joined, stands-joined, stands-each}
 use Rattle.rule.specs.Fill.{filled}
-use Rattle.rule.proofs.FillLaws.{length-filled, get_or-filled, get_or-left}
-
--- N slots whose first n are f 0, f 1, .. and whose others hold d; o stands past the end
-pub slots_are : {A : Type 0} (N : ℕ) (d o : A) (f : ℕ → A) (n : ℕ) (xs : List A) → n ≤ N → length xs ≡ N
-    → ((j : ℕ) → j < n → f j ≡ get_or xs j o) → ((j : ℕ) → n ≤ j → j < N → get_or xs j o ≡ d) → filled N d f n ≡ xs
-slots_are N d o f n xs l e first rest =
-    ext_get_or o (filled N d f n) xs (length-filled N d f n l ∙ sym e)
-    (λ j h.
-    ⊎_elim (λ g. get_or-filled N d f n o j g ∙ first j g)
-    (λ g. let k : j < N = omega (arith, length-filled N d f n l) in get_or-left N d f n o j g k ∙ sym (rest j g k))
-    (lt-or_ge j n))
+use Rattle.rule.proofs.FillLaws.{get_or-filled, slots_are}
 
 module _ {A : Type 0} (s : List ℕ) (N w : ℕ) (d : A) (B : A → List ℕ) (R : ℕ → A)
     (wide : (x : A) → length (B x) ≡ w) where

@@ -22,7 +22,7 @@ use Rattle.rule_write.specs.Pieces.{test_bytes, tests_bytes, assign_bytes, assig
 use Rattle.rule_write.specs.RuleWriteInner.{slot_bytes}
 use Rattle.rule_write.specs.HeldRule.{HeldRule}
 use Rattle.rule_write.proofs.HeldRuleLaws.{EmptyPast}
-use Rattle.rule_write.proofs.RowsBytesLaws.{slots_are}
+use Rattle.rule.proofs.FillLaws.{slots_are}
 
 zero : (x : ℕ) → not_zero x ≡ false → x ≡ 0
 zero x e = eqb-true x 0 (not-false (eqb x 0) e)

@@ -4,14 +4,13 @@ use mathlib.Core.Bool.{Bool, true, false, not}
 use mathlib.Core.List.{List, [], ◌∷◌}
 use Prim.Native.Nat.{ℕ, ◌+◌, ◌*◌, ◌≤◌, ◌<◌}
 use native.Mathlib.Nat.{le_refl, le_trans}
-use native.Mathlib.Omega.{arith}
 use lib.Dec.{ltb}
-use lib.ListN.{length, get_or}
+use lib.ListN.{length}
 use borrow.Author.Tests.{lt-ltb, le-ltb, ne_eqb}
 use Rattle.mask.proofs.FirstLaws.{first-passed}
 use Rattle.mask.proofs.LoopsLaws.{Passed, passed_here, passed-all}
 use Rattle.rule.specs.Fill.{filled}
-use Rattle.rule.proofs.FillLaws.{get_or-upto, get_or-filled}
+use Rattle.rule.proofs.FillLaws.{get_or-upto}
 use Rattle.rule.specs.declared.Rule.{Rule}
 use Rattle.rule.specs.Empty.{no_rule}
 use Rattle.rule.specs.Numbers.{not_zero, rule_number}
@@ -19,15 +18,13 @@ use Rattle.rule.proofs.NumbersLaws.{counted}
 use Rattle.rule_read.specs.Parts.{rule_of}
 use Rattle.rule_read.specs.RuleReadInner.{column_in}
 use Rattle.rule_read.proofs.ColumnLaws.{column-same}
-use Rattle.rule_read.proofs.NameReadLaws.{name-long, name-bytes}
+use Rattle.rule_read.proofs.NameReadLaws.{name-long}
 use Rattle.rule_check.specs.RuleCheckInner.{Lies}
-use Rattle.little.specs.Little.{byte_at, u32_at, u64_at}
-use Rattle.little.specs.EachByte.{Bytes}
-use Rattle.little.proofs.BytesBackLaws.{word_same}
+use Rattle.little.specs.Little.{byte_at, u32_at}
 use Rattle.table.specs.Table.{Table, rule_at}
 use Rattle.table.specs.Check.{answer, done, sizes_bad, number_at, first_bad, check_of}
 use Rattle.table.specs.Memory.{table_from}
-use Rattle.table.specs.declared.Answer.{Answer}
+use Rattle.refusal.specs.Answer.{Answer}
 use Rattle.table.specs.TableInner.{judged, slot_start, rule_from}
 use Rattle.table.proofs.SoundLaws.{bad-here}
 
@@ -44,9 +41,6 @@ module _ (s : List ℕ) where
   pub from-long : (i : ℕ) → length (rule_from s i).name ≡ 16
   from-long i = name-long s (slot_start i + 12 + 12 * 8 + 20 * 8) 16 (le_refl 16)
 
-  pub from_bytes : Bytes s → (i : ℕ) → Bytes (rule_from s i).name
-  from_bytes b i = name-bytes s (slot_start i + 12 + 12 * 8 + 20 * 8) 16 (le_refl 16) b
-
 -- the masks that stand `at` bytes on in the first n slots are those of the table's rules
 pub column-is : (s : List ℕ) (n : ℕ) → n ≡ byte_at s 1 → n ≤ 32 → (f : Rule → ℕ) (at : ℕ)
     → ((i : ℕ) → u32_at s (at + 284 * i) ≡ f (rule_from s i))
@@ -57,23 +51,6 @@ column-is s n e few f at h =
     ∙ ap (filled 32 0 (λ i. f (rule_at (table_from s) i))) e
 
 module _ (s : List ℕ) (i : ℕ) where
-  letter_at : (k p : ℕ) → p ≡ slot_start i + 12 + 12 * 8 + 20 * 8 + k → (j : ℕ) → k + j < 16
-      → get_or (rule_from s i).name (k + j) 0 ≡ byte_at s (p + j)
-  letter_at k p e j l =
-      get_or-filled 16 0 (λ x. byte_at s (slot_start i + 12 + 12 * 8 + 20 * 8 + x)) 16 0 (k + j) l
-      ∙ ap (byte_at s) (omega arith)
-
-  -- the two numbers of a name, where it lies
-  pub low_word : u64_at s (slot_start i + 268) ≡ u64_at (rule_from s i).name 0
-  low_word =
-      let p = slot_start i + 268 in
-      sym (word_same (rule_from s i).name s 0 p (λ j l. letter_at 0 p (omega arith) j (omega arith)))
-
-  pub high_word : u64_at s (slot_start i + 276) ≡ u64_at (rule_from s i).name 8
-  high_word =
-      let p = slot_start i + 276 in
-      sym (word_same (rule_from s i).name s 8 p (λ j l. letter_at 8 p (omega arith) j (omega arith)))
-
   pub slot_lies : slot_start i + 284 ≤ length s → Lies s (slot_start i) 8 8 16
   slot_lies l =
       record {

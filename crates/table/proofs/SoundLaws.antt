@@ -1,11 +1,19 @@
 -- What a table has to which no number applies.
-use mathlib.Core.Path.{◌≡◌, sym, ap, ◌∙◌}
+use mathlib.Core.Path.{◌≡◌, sym, ap, ◌∙◌, subst}
 use mathlib.Core.Bool.{Bool, true, false, ◌||◌, ◌&&◌, false≢true}
 use Prim.Native.Nat.{ℕ, ◌≤◌, ◌<◌}
 use native.Mathlib.Nat.{le_trans}
 use native.Mathlib.Omega.{arith}
 use lib.Dec.{ltb, leb, eqb}
 use borrow.Author.Tests.{ltb-true, ltb-false, le-ltb, le-leb, eqb-true, not-false}
+use Rattle.std.proofs.Common.{Result, Ok, Err}
+use Rattle.std.specs.Result.{IsErr, IsErrAnd, MatchResult}
+use Rattle.std.proofs.lemmas.Result.{err_from_is_err_and}
+use Rattle.refusal.specs.declared.Fault.{Fault}
+use Rattle.refusal.specs.declared.Refusal.TheVariants.{Rule}
+use Rattle.refusal.specs.declared.Refusal.{Refusal}
+use Rattle.refusal.specs.RefusalNumbers.{answer_of, fault_of, number_of, place_of}
+use Rattle.refusal.proofs.RefusalLaws.{not_done}
 use Rattle.mask.specs.Search.{least}
 use Rattle.mask.proofs.SearchLaws.{or_false_both, least-is}
 use Rattle.mask.proofs.FirstLaws.{NoneHolds, first-passed, passed_first}
@@ -13,8 +21,23 @@ use Rattle.graph.specs.Graph.{cyclic}
 use Rattle.rule.specs.Numbers.{not_zero, rule_slot_bad}
 use Rattle.rule.proofs.NumbersLaws.{Clean, clean}
 use Rattle.table.specs.Table.{Table, rule_at, precedes_of}
-use Rattle.table.specs.declared.Answer.{Answer}
-use Rattle.table.specs.Check.{done, sizes_bad, number_at, first_bad, first_slot, check_answers, check_of, Sound}
+use Rattle.refusal.specs.Answer.{Answer}
+use Rattle.table.specs.Check.{answer, done, sizes_bad, number_at, first_bad, first_slot, check_answers, check_of, Sound}
+
+-- a refusal's number is not 0
+pub refused : {A : Type 0} (r : Result A Refusal) (a : Answer) → answer_of r ≡ a → IsErr r → a.number ≡ 0 → ⊥
+refused (Ok x) a e i z = false≢true i
+refused (Err d) a e i z = not_done d (ap (λ (b : Answer). b.number) e ∙ z)
+
+-- a fault that was told with its rule is refused by its number, with the rule's as its place
+pub rule_refused : (r : Result (Unit {0}) Fault) (m : Result (Unit {0}) Refusal) (d : Refusal) (i : ℕ) (P : Fault → Refusal → Type 0)
+    → MatchResult r (λ x. m ≡ Ok x) (λ f. IsErrAnd m (P f)) → m ≡ Err d → ((f : Fault) → P f d → d ≡ Rule f i)
+    → answer (number_of d) (place_of d) ≡ answer (fault_of r) i
+rule_refused (Ok x) m d i P h e k = absurd (cc (h, e))
+rule_refused (Err f) m d i P h e k =
+    let p = err_from_is_err_and m h in
+    let q : p.0 ≡ d = cc (p.1, e) in
+    ap (λ (x : Refusal). answer (number_of x) (place_of x)) (k f (subst (P f) q p.2))
 
 -- the sizes that 3 does not refuse
 pub record Sized (n k : ℕ) : Type 0 where

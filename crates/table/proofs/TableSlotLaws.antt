@@ -1,9 +1,9 @@
 -- A rule slot is not all zero exactly when one of its 284 bytes is not 0.
 use mathlib.Core.Path.{◌≡◌, refl, sym, ap, ap₂, ◌∙◌, subst}
-use mathlib.Core.Bool.{Bool, true, false, ◌&&◌}
+use mathlib.Core.Bool.{Bool, true, false, ◌&&◌, ◌||◌, or_comm}
 use mathlib.Core.Logic.{⊎_elim}
-use mathlib.Core.List.{List}
-use Prim.Native.Nat.{ℕ, ◌+◌, ◌-◌, ◌*◌, ◌≤◌, ◌<◌}
+use mathlib.Core.List.{List, [], ◌∷◌, ◌++◌}
+use Prim.Native.Nat.{ℕ, ◌+◌, ◌≤◌, ◌<◌}
 use native.Mathlib.Nat.{le_refl}
 use native.Mathlib.Omega.{arith}
 use lib.Dec.{leb}
@@ -11,8 +11,8 @@ use lib.ListN.{length, get_or, take, drop, replicate, length-drop, get_or-replic
 use lib.Seq.{get_or-take, get_or-drop, length-take-le}
 use borrow.Author.Tests.{le-leb, lt-leb, eqb-true, not-false}
 use Rattle.mask.specs.Search.{some}
-use Rattle.mask.proofs.SearchLaws.{some_same, some-none, some_false, lt-or_ge}
-use Rattle.mask.proofs.LoopsLaws.{Passed}
+use Rattle.mask.proofs.SearchLaws.{some_more, some_same, some-none, some_false, least-none, lt-or_ge}
+use Rattle.mask.proofs.LoopsLaws.{passed_here}
 use Rattle.little.specs.Little.{byte_at}
 use Rattle.little.proofs.StandsLaws.{Stands}
 use Rattle.little.specs.EachByte.{Bytes}
@@ -23,17 +23,31 @@ use Rattle.rule_write.specs.HeldRule.{HeldRule}
 use Rattle.rule_write.proofs.HeldLaws.{none-held}
 use Rattle.rule_write.proofs.ReadBackLaws.{rule-read}
 use Rattle.rule_write.proofs.WriteBackLaws.{rule-stands}
-use Rattle.table.specs.Table.{rule_at}
-use Rattle.table.specs.Memory.{table_from}
+use Rattle.table.specs.Table.{Table, rule_at}
+use Rattle.table.specs.Check.{first_slot}
+use Rattle.std.specs.Option.{MatchOption}
+use Rattle.std.proofs.lemmas.List.{length_push, get_or_push, get_or_append_left}
+use Rattle.std.proofs.Common.{Option, Some, None}
 use Rattle.table.proofs.HoldsLaws.{slot_held}
 use Rattle.rule_write.proofs.SlotsLaws.{empty-rule, zero-slot}
 use Rattle.table.specs.TableInner.{any_set, slot_start, rule_from}
-use Rattle.table.proofs.ImageLaws.{rule-from}
 use Rattle.table.proofs.TableTripLaws.{none-past}
 
 -- whether one of the w bytes from a on is not 0
 abbrev pub set_in : List ℕ → ℕ → ℕ → Bool
 set_in s a w = some w (λ j. not_zero (byte_at s (a + j)))
+
+-- one byte more
+pub set_push : (s : List ℕ) (b : ℕ) → any_set (s ++ (b ∷ [])) ≡ (any_set s || not_zero b)
+unfolding any_set
+set_push s b =
+    let n = length s in
+    let f : ℕ → Bool = λ j. not_zero (get_or (s ++ (b ∷ [])) j 0) in
+    ap (λ (k : ℕ). some k f) (length_push s b)
+    ∙ (some_more n f
+    ∙ (ap₂ ◌||◌ (ap not_zero (get_or_push s b 0 n refl))
+    (some_same n f (λ j. not_zero (get_or s j 0)) (λ j l. ap not_zero (get_or_append_left s (b ∷ []) 0 j l)))
+    ∙ or_comm (not_zero b) (some n (λ j. not_zero (get_or s j 0)))))
 
 pub part_set : (s : List ℕ) (a w : ℕ) → a + w ≤ length s → any_set (take w (drop a s)) ≡ set_in s a w
 unfolding any_set
@@ -94,35 +108,29 @@ module _ (s : List ℕ) (b : Bytes s) (size : length s ≡ 9092) (i : ℕ) (smal
 
 -- ---- the slots past n
 
-abbrev pub slot_bad : List ℕ → ℕ → Bool
-slot_bad s x = leb (byte_at s 1) x && rule_slot_bad (rule_at (table_from s) x)
+module _ (t : Table) where
+  mine : (k : ℕ) → k < t.n → (leb t.n k && rule_slot_bad (rule_at t k)) ≡ false
+  mine k l = ap (λ (v : Bool). v && rule_slot_bad (rule_at t k)) (lt-leb t.n k l)
 
-module _ (s : List ℕ) where
-  pub slot-mine : (x : ℕ) → x < byte_at s 1 → slot_bad s x ≡ false
-  slot-mine x l = ap (λ (v : Bool). v && rule_slot_bad (rule_at (table_from s) x)) (lt-leb (byte_at s 1) x l)
+  past : (i : ℕ) → ((k : ℕ) → t.n ≤ k → k < i → rule_slot_bad (rule_at t k) ≡ false) → (k : ℕ) → k < i
+      → (leb t.n k && rule_slot_bad (rule_at t k)) ≡ false
+  past i h k l = ⊎_elim (mine k) (λ m. ap (λ (v : Bool). v && rule_slot_bad (rule_at t k)) (le-leb t.n k m) ∙ h k m l) (lt-or_ge k t.n)
 
-  pub passed-mine : Passed (slot_bad s) (byte_at s 1)
-  passed-mine = record { none = slot-mine }
+  -- none, or the first
+  pub slots_good : ((k : ℕ) → t.n ≤ k → k < 32 → rule_slot_bad (rule_at t k) ≡ false) → first_slot t ≡ 32
+  unfolding first_slot
+  slots_good h = least-none 32 (λ i. leb t.n i && rule_slot_bad (rule_at t i)) (past 32 h)
 
-  module _ (b : Bytes s) (size : length s ≡ 9092) where
-    pub slot-here : (x : ℕ) → x < 32 → byte_at s 1 ≤ x → slot_bad s x ≡ set_in s (slot_start x) 284
-    slot-here x l h =
-        ap₂ ◌&&◌ (le-leb (byte_at s 1) x h) (ap rule_slot_bad (rule-from s x l) ∙ slot-set s b size x l)
+  pub slot_first : (i : ℕ) → t.n ≤ i → i < 32 → rule_slot_bad (rule_at t i) ≡ true
+      → ((k : ℕ) → t.n ≤ k → k < i → rule_slot_bad (rule_at t k) ≡ false) → i ≡ first_slot t
+  unfolding first_slot
+  slot_first i m l b h =
+      passed_here {f = λ i. leb t.n i && rule_slot_bad (rule_at t i)} (record { none = past i h }) l
+      (ap₂ ◌&&◌ (le-leb t.n i m) b)
 
-    -- where all bytes past rule n are 0 no slot is bad
-    pub none-set : (n : ℕ) → n ≡ byte_at s 1 → n ≤ 32 → set_in s (4 + 284 * n) (9092 - (4 + 284 * n)) ≡ false → Passed (slot_bad s) 32
-    none-set n e few z =
-        record {
-          none = λ x l.
-              ⊎_elim (slot-mine x)
-              (λ h.
-              slot-here x l h
-              ∙ some-none 284 (λ j. not_zero (byte_at s (slot_start x + j)))
-              (λ j g.
-              let k = slot_start x - (4 + 284 * n) + j in
-              let p : 4 + 284 * n + k ≡ slot_start x + j = omega arith in
-              let q : k < 9092 - (4 + 284 * n) = omega arith in
-              ap (λ (y : ℕ). not_zero (byte_at s y)) (sym p)
-              ∙ some_false (9092 - (4 + 284 * n)) (λ y. not_zero (byte_at s (4 + 284 * n + y))) z k q))
-              (lt-or_ge x (byte_at s 1));
-        }
+  pub slot_found : (n : ℕ) → n ≡ t.n → (r : Option ℕ)
+      → MatchOption r ((k : ℕ) → n ≤ k → k < 32 → rule_slot_bad (rule_at t k) ≡ false)
+      (λ i. (n ≤ i) × (i < 32) × (rule_slot_bad (rule_at t i) ≡ true) × ((k : ℕ) → n ≤ k → k < i → rule_slot_bad (rule_at t k) ≡ false))
+      → MatchOption r (first_slot t ≡ 32) (λ i. (i < 32) × (i ≡ first_slot t))
+  slot_found n e None h = slots_good (λ k m. h k (omega arith))
+  slot_found n e (Some i) h = (h.1, slot_first i (omega (arith, h.0)) h.1 h.2 (λ k m. h.3 k (omega arith)))

@@ -5,7 +5,7 @@ use Rattle.mask.specs.First.{first_of}
 use Rattle.graph.specs.Graph.{cyclic}
 use Rattle.rule.specs.Numbers.{not_zero, rule_number, rule_slot_bad}
 use Rattle.table.specs.Table.{Table, rule_at, precedes_of}
-use Rattle.table.specs.declared.Answer.{Answer}
+use Rattle.refusal.specs.Answer.{Answer}
 
 -- "with its place: the rule number for 5 to 9, else 255"
 abbrev pub answer : ℕ → ℕ → Answer

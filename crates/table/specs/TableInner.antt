@@ -7,7 +7,7 @@ use Rattle.rule.specs.Numbers.{not_zero}
 use Rattle.rule_read.specs.Parts.{rule_of}
 use Rattle.little.specs.Little.{byte_at}
 use Rattle.table.specs.Table.{Table, rule_at}
-use Rattle.table.specs.declared.Answer.{Answer}
+use Rattle.refusal.specs.Answer.{Answer}
 use Rattle.table.specs.Check.{answer, done, number_at, first_bad}
 
 -- n and k are those of the image, and 3 does not refuse them

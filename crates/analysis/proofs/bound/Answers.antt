@@ -1,19 +1,25 @@
--- A table with a number is refused by it; of any other the bound is found.
-use Rattle.table.specs.Check.{Sound}
+-- The bound asks for two of the four rows.
+use Rattle.std.proofs.Common.{subst, rules}
 use Rattle.table.specs.Memory.{table_from}
-use Rattle.analysis.proofs.SaysLaws.{refuses, sound-checked, sound-bounds}
-use borrow.Author.Rules.{rules}
+use Rattle.analysis_pairs.specs.declared.Masks.{Masks}
+use Rattle.analysis_pairs.specs.AnalysisPairsInner.{triggering}
+use Rattle.analysis_masks.specs.Found.{bound_of}
+use Rattle.analysis_masks.specs.Bound.{Bounded}
+use Rattle.analysis_masks.proofs.BoundLaws.{triggering-orderly, bounded_in}
+use Rattle.analysis.specs.TableMasks.{masks_of}
+use Rattle.analysis.proofs.TableMasksLaws.{orderly_from}
+use Rattle.analysis.proofs.SaysLaws.{sound-bounds}
 use Rattle.analysis.proofs.bound.Goals as goal
-use Rattle.analysis.proofs.bound.Goals.{Else-a-ne0}
 
-pub returns-then-a-ne0 : goal.returns-then-a-ne0
-returns-then-a-ne0 c = refuses c.check-a.ensures c.if-a-ne0.true
-
-sound : (c : Else-a-ne0) → Sound (table_from c.args.table.now)
-sound c = sound-checked c.check-a.ensures c.if-a-ne0.false
-
-pub bounded-requires : goal.bounded-requires
-bounded-requires c = (search rules, sound c.before)
+pub bound-requires : goal.bound-requires
+bound-requires c =
+    let s = c.args.table.now in
+    rw c.masks-m.ensures
+    (triggering-orderly (masks_of (table_from s)) (orderly_from s (search rules) c.told-table (record { small = c.fits-table })))
 
 pub returns : goal.returns
-returns c = sound-bounds (sound c.before.before) c.bounded.ensures
+returns c =
+    let m = masks_of (table_from c.args.table.now) in
+    sound-bounds (search rules)
+    (bounded_in m c.args.set (bound_of c.bound.result)
+    (subst (λ (x : Masks). Bounded (triggering x.n x.watch x.writes) c.args.set (bound_of c.bound.result)) c.masks-m.ensures c.bound.ensures))

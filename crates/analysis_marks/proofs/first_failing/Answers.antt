@@ -1,26 +1,42 @@
 -- The first mark 2 belongs to a pair that fails, so judging it again gives its culprits.
-use native.Mathlib.Omega.{arith}
-use Rattle.mask.proofs.SearchLaws.{least-is}
+use Rattle.std.proofs.Common.{◌≡◌, ℕ, ◌<◌, false, true, List, Option, eqb, ap, ◌∙◌, rules, tests, arith}
+use Rattle.std.specs.Prelude.{MatchOption}
+use Rattle.mask.specs.Search.{least_at}
+use Rattle.mask.proofs.AnyLaws.{least_of_position-slice, least_cases}
+use Rattle.mask.proofs.CountsLaws.{count_none}
+use Rattle.mask.proofs.SearchLaws.{least_by}
 use Rattle.analysis_marks.specs.Marks.{fails_at}
-use Rattle.analysis_marks.proofs.MarkedLaws.{first-none, first_some}
+use Rattle.analysis_marks.proofs.MarkedLaws.{first_fails, first_some}
 use Rattle.analysis_marks.proofs.first_failing.Goals as goal
-use Rattle.analysis_marks.proofs.first_failing.Goals.{Else-k-eq496}
+use Rattle.analysis_marks.proofs.first_failing.Goals.{After-position}
 
-pub returns-then-k-eq496 : goal.returns-then-k-eq496
-returns-then-k-eq496 c = first-none _ _ _ c.first_mark-k.ensures c.if-k-eq496.true
+-- where the first mark 2 stands
+abbrev FirstTwo : List ℕ → Option ℕ → Type 0
+FirstTwo q o =
+    MatchOption o ((i : ℕ) → i < 496 → fails_at q i ≡ false)
+    (λ k. (k < 496) × (fails_at q k ≡ true) × ((i : ℕ) → i < k → fails_at q i ≡ false))
 
-pub pair_at-p-requires : goal.pair_at-p-requires
-pair_at-p-requires c =
-    omega (
-      arith,
-      c.first_mark-k.ensures,
-      c.if-k-eq496.false,
-      (least-is 496 (fails_at c.args.q.now)).bound,
-    )
+first : (c : After-position) → FirstTwo c.args.q.now c.position.result
+first c =
+    let q = c.args.q.now in
+    least_cases 496 (fails_at q) c.position.result
+    (least_of_position-slice q 0 (λ m. eqb m 2) _ _ _ (cc) c.position.ensures.ran (λ x b p k. search (rules, tests))
+    ∙ ap (λ (n : ℕ). least_at n (fails_at q)) c.told-q)
+
+pub returns-in_err-k : goal.returns-in_err-k
+returns-in_err-k c =
+    let none = rw c.in_err-k.was at (first (goal.at.returns-in_err-k c).After-position) in
+    rw c.from_residual.ensures (count_none 496 (fails_at c.args.q.now) none)
+
+pub returns-in_err-culprits : goal.returns-in_err-culprits
+returns-in_err-culprits c =
+    let p = c.pair_at-i.ensures in
+    let k = rw c.in_ok-k.was at (first (goal.at.returns-in_err-culprits c).After-position) in
+    absurd (first_fails c.requires k.0 k.1 p.0 p.1 p.2 c.in_err-culprits.ensures)
 
 pub returns : goal.returns
 returns c =
-    let p = c.pair_at-p in
-    first_some _ c.args.q.now _ _ _ _ _ c.judge-w.result.fails c.requires.1
-    c.first_mark-k.ensures (pair_at-p-requires (goal.at.returns c).Else-k-eq496)
-    p.ensures.0 p.ensures.1 p.ensures.2 c.judge-w.ensures
+    let p = c.pair_at-i.ensures in
+    let k = rw c.in_ok-k.was at (first (goal.at.returns c).After-position) in
+    first_some (least_by 496 (fails_at c.args.q.now) _ (record { bound = omega (arith, k.0); is = λ l. k.1; first = k.2 }))
+    p.0 p.1 p.2 c.in_ok-culprits.ensures

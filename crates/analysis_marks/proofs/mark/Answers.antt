@@ -3,8 +3,8 @@ use Rattle.analysis_pairs.proofs.RulesLaws.{fails-not-passes}
 use Rattle.analysis_marks.specs.AnalysisMarksInner.{good, bad}
 use Rattle.analysis_marks.proofs.mark.Goals as goal
 
-pub returns-then-w : goal.returns-then-w
-returns-then-w c = bad (λ p. fails-not-passes (c.judge-w.ensures.failing c.if-w.true) p)
+pub returns-in-None : goal.returns-in-None
+returns-in-None c = good c.in-None.ensures
 
-pub returns-else-w : goal.returns-else-w
-returns-else-w c = good (c.judge-w.ensures.passing c.if-w.false).0
+pub returns-in-Some : goal.returns-in-Some
+returns-in-Some c = bad (fails-not-passes c.in-Some.ensures)

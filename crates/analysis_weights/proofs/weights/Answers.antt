@@ -10,9 +10,6 @@ use Rattle.mask.proofs.LoopsLaws.{zeros-at}
 use borrow.Author.Rules.{rules}
 use Rattle.analysis_weights.proofs.weights.Goals as goal
 
-pub below-requires : goal.below-requires
-below-requires c = c.requires.0
-
 pub weigh-requires : goal.weigh-requires
 weigh-requires c =
     record {

@@ -5,22 +5,21 @@ use Rattle.table.proofs.ImageLaws.{rule-from}
 use Rattle.table.specs.BodyStarts.{body_size, start_at}
 use Rattle.table.proofs.BodyStartsLaws.{start-more}
 use Rattle.book_parts.specs.BookPartsInner.{sizes_of}
-use borrow.Author.Rules.{rules}
 use Rattle.book_parts.proofs.end_of.Goals as goal
 
 pub loop-i-init : goal.loop-i-init
 unfolding start_at
-loop-i-init c = (search rules, search rules, refl, omega arith)
+loop-i-init c = (refl, omega arith)
 
 pub loop-i-preserved : goal.loop-i-preserved
 loop-i-preserved c =
     let l = c.loop-i in
     let a = c.args in
-    let e = ap body_size (rule-from a.s.now l.i (omega arith)) in
-    (search rules, search rules, rw (start-more a.n (sizes_of (table_from a.s.now).rules) l.i) (omega arith), omega arith)
+    let e = ap body_size (rule-from a.table.now l.i (omega arith)) in
+    (rw (start-more a.n (sizes_of (table_from a.table.now).rules) l.i) (omega arith), omega arith)
 
 pub returns : goal.returns
 returns c =
     let a = c.args in
     let e : c.loop-i.i ≡ a.n = omega arith in
-    c.loop-i.invariant.2 ∙ ap (start_at a.n (sizes_of (table_from a.s.now).rules)) e
+    c.loop-i.invariant.0 ∙ ap (start_at a.n (sizes_of (table_from a.table.now).rules)) e

@@ -7,4 +7,4 @@ use Rattle.book_parts.specs.BookPartsInner.{sizes_of}
 use Rattle.book_parts.proofs.end_of.Given as goal
 
 abbrev pub invariant-loop-i : goal.invariant-loop-i
-invariant-loop-i l = (l.i ≤ l.n) × (l.n ≤ 32) × (l.end ≡ start_at l.n (sizes_of (table_from l.s).rules) l.i) × (l.end ≤ 132 + 8427 * l.i)
+invariant-loop-i l = (l.end ≡ start_at l.n (sizes_of (table_from l.table).rules) l.i) × (l.end ≤ 132 + 8427 * l.i)

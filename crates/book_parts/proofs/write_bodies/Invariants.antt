@@ -1,7 +1,5 @@
--- The bodies of the its_rules passed are written, and the next one goes where they end.
-use mathlib.Core.Path.{◌≡◌}
-use Prim.Native.Nat.{◌+◌, ◌*◌, ◌≤◌}
-use lib.ListN.{length}
+-- The bodies of the rules passed are written, and the next one goes where they end.
+use Rattle.std.proofs.Common.{◌≡◌, ◌+◌, ◌*◌}
 use Rattle.little.specs.Put.{put}
 use Rattle.table.specs.Memory.{table_from}
 use Rattle.table.specs.BodyStarts.{start_at}
@@ -10,7 +8,5 @@ use Rattle.book_parts.proofs.write_bodies.Given as goal
 
 abbrev pub invariant-loop-i : goal.invariant-loop-i
 invariant-loop-i l =
-    (l.i ≤ l.n)
-    × (l.at ≡ start_at l.n (sizes_of (table_from l.s).rules) l.i)
-    × (l.out ≡ put l.initial.out (4 + 4 * l.n) (bodies_bytes (table_from l.s).rules l.i))
-    × (length l.out ≡ length l.initial.out)
+    (l.at ≡ start_at l.n (sizes_of (table_from l.table).rules) l.i)
+    × (l.out ≡ put l.initial.out (4 + 4 * l.n) (bodies_bytes (table_from l.table).rules l.i))

@@ -1,49 +1,46 @@
 -- After the checks the bodies' end is the length.
-use mathlib.Core.Path.{◌≡◌, sym, ap, ◌∙◌}
-use mathlib.Core.List.{List}
-use Prim.Native.Nat.{ℕ}
-use native.Mathlib.Omega.{arith}
-use Rattle.table.proofs.SoundLaws.{sound-by}
+use Rattle.std.proofs.Common.{◌≡◌, ℕ, sym, ap, ◌∙◌, arith}
+use Rattle.std.proofs.lemmas.Result.{err_from_is_err_and}
+use Rattle.refusal.specs.Answer.{Answer}
+use Rattle.refusal.proofs.RefusalLaws.{not_done}
 use Rattle.table.specs.Table.{Table}
-use Rattle.table.specs.declared.Answer.{Answer}
 use Rattle.table.specs.Check.{check_of}
 use Rattle.table.specs.Memory.{table_from}
 use Rattle.table.specs.BodyStarts.{start_at}
+use Rattle.table.proofs.SoundLaws.{sound-by}
 use Rattle.book_parts.specs.BookPartsInner.{sizes_of}
 use Rattle.book_parts.proofs.PartsLaws.{ready}
-use Rattle.book_write.proofs.BookLaws.{length-book}
 use Rattle.book_parts.proofs.BodyWriteLaws.{count-from}
 use Rattle.book_write.specs.Write.{written}
+use Rattle.book_write.proofs.BookLaws.{length-book}
 use Rattle.book_write.proofs.WriteLaws.{size-refused, size-done}
-use borrow.Author.Rules.{rules}
 use Rattle.book_write.proofs.size.Goals as goal
-use Rattle.book_write.proofs.size.Goals.{After-count}
+use Rattle.book_write.proofs.size.Goals.{After-from}
 
-pub returns-then-c-ne0 : goal.returns-then-c-ne0
-returns-then-c-ne0 c =
+pub returns-in_err-check : goal.returns-in_err-check
+returns-in_err-check c =
+    let p = err_from_is_err_and c.from_residual.result c.from_residual.ensures.1 in
+    let told = c.in_err-check.ensures in
     let t = table_from c.args.table.now in
-    sym (size-refused t (λ e. c.if-c-ne0.true (ap (λ (a : Answer). a.number) c.check-c.ensures ∙ e))
-    ∙ ap (λ (a : Answer). written a.number a.place 0) (sym c.check-c.ensures))
+    rw (p.1, p.2)
+    (sym (size-refused t (λ z. not_done _ (ap (λ (a : Answer). a.number) told ∙ z)) ∙ ap (λ (a : Answer). written a.number a.place 0) (sym told)))
 
-module _ (c : After-count) where
-  abbrev image : List ℕ
-  image = c.args.table.now
-
+module _ (c : After-from) where
   abbrev T : Table
-  T = table_from image
+  T = table_from c.args.table.now
 
   none : (check_of T).number ≡ 0
-  none =
-      sym (ap (λ (a : Answer). a.number) c.check-c.ensures) ∙ c.if-c-ne0.false
+  none = ap (λ (a : Answer). a.number) (sym c.in_ok-check.ensures)
 
-  counted : c.count.result ≡ T.n
-  counted = c.count.ensures.0 ∙ count-from image
+  counted : c.from.result ≡ T.n
+  counted = c.from.ensures ∙ count-from c.args.table.now
 
 pub end_of-requires : goal.end_of-requires
-end_of-requires c = (omega (arith, counted c, (ready (T c) (sound-by (T c) (none c))).few), search rules)
+end_of-requires c = omega (arith, counted c, (ready (T c) (sound-by (T c) (none c))).few)
 
 pub returns : goal.returns
 returns c =
+    let d = (goal.at.returns c).After-from in
     ap (written 0 255)
-    (c.end_of.ensures ∙ (ap (λ (n : ℕ). start_at n (sizes_of (T (goal.at.returns c).After-count).rules) n) (counted (goal.at.returns c).After-count) ∙ sym (length-book (T (goal.at.returns c).After-count))))
-    ∙ sym (size-done (T (goal.at.returns c).After-count) (none (goal.at.returns c).After-count))
+    (c.end_of.ensures ∙ (ap (λ (n : ℕ). start_at n (sizes_of (T d).rules) n) (counted d) ∙ sym (length-book (T d))))
+    ∙ sym (size-done (T d) (none d))

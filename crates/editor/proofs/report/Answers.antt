@@ -1,27 +1,30 @@
-use Rattle.std.proofs.Common.{rules, ◌≡◌, ◌∙◌, sym, ap, subst, arith, length, get_or}
+-- More than 32 records are refused; else what is put into the arrays are the masks of the row.
+use Rattle.std.proofs.Common.{◌≤◌, ℕ, rules, refl, subst, length, get_or}
 use Rattle.analysis_pairs.specs.declared.Masks.{Masks}
-use Rattle.editor.specs.Rows.{no_record, RowsSay}
-use Rattle.editor.specs.EditorInner.{RestZero, with_row}
-use Rattle.editor.proofs.CopyingLaws.{copy_to, copy_more, copy-none, copy_rest, row-says}
+use Rattle.analysis_masks.specs.Found.{report_of}
+use Rattle.rule.proofs.FillLaws.{is_filled}
+use Rattle.editor.specs.declared.Record.{Record}
+use Rattle.editor.specs.Rows.{no_record, row_masks, RowsSay}
+use Rattle.editor.proofs.CopyingLaws.{masks_are, many-refused}
 use Rattle.editor.proofs.report.Goals as goal
 
-pub loop-i-init : goal.loop-i-init
-loop-i-init c = (search rules, c.none-m.ensures ∙ copy-none c.args.rows.now)
-
-pub loop-i-preserved : goal.loop-i-preserved
-loop-i-preserved c =
-    let rows = c.args.rows.now in
-    let i = c.loop-i.i in (
-      omega arith,
-      c.with_row-m.ensures ∙ ap (λ (m : Masks). with_row m i (get_or rows i no_record)) c.loop-i.invariant.1
-          ∙ copy_more rows i,
-    )
-
-pub analysed-requires : goal.analysed-requires
-analysed-requires c = subst RestZero (sym c.loop-i.invariant.1) (copy_rest c.args.rows.now c.loop-i.i)
+pub returns-then-rows-gt32 : goal.returns-then-rows-gt32
+returns-then-rows-gt32 c = many-refused (row_masks c.args.rows.now) _ c.if-rows-gt32.true refl
 
 pub returns : goal.returns
 returns c =
     let rows = c.args.rows.now in
-    let e : c.loop-i.i ≡ length rows = omega arith in
-    row-says rows _ (subst (λ (m : Masks). RowsSay m c.analysed.result) (c.loop-i.invariant.1 ∙ ap (copy_to rows) e) c.analysed.ensures)
+    let n = length rows in
+    let few : n ≤ 32 = c.if-rows-gt32.false in
+    let row = c.row.ensures in
+    let row-2 = c.row-2.ensures in
+    let row-3 = c.row-3.ensures in
+    let row-4 = c.row-4.ensures in
+    let at : ℕ → Record = λ i. get_or rows i no_record in
+    subst (λ (m : Masks). RowsSay m (report_of c.judged.result))
+    (masks_are n
+    (is_filled 32 0 (λ i. (at i).watch) n _ few row.size (λ i l. let p = row.below i l in search rules) row.beyond)
+    (is_filled 32 0 (λ i. (at i).reads) n _ few row-2.size (λ i l. let p = row-2.below i l in search rules) row-2.beyond)
+    (is_filled 32 0 (λ i. (at i).writes) n _ few row-3.size (λ i l. let p = row-3.below i l in search rules) row-3.beyond)
+    (is_filled 32 0 (λ i. (at i).precedes) n _ few row-4.size (λ i l. let p = row-4.below i l in search rules) row-4.beyond))
+    c.judged.ensures

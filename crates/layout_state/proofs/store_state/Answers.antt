@@ -22,6 +22,6 @@ returns c =
     let n1 : length b1 ≡ 256 = length-cells s.cells 32 in
     let n2 : length b2 ≡ 260 = length_front s.cells s.waiting in
     let w2 = put_next old 0 b1 c.put_cells.ensures (omega arith) 256 (omega arith) (u32_bytes s.waiting)
-    c.put_u32.ensures in
-    put_next old 0 b2 w2 (omega arith) 260 (omega arith) (u32_bytes s.faults) c.put_u32-2.ensures
+    c.put.ensures in
+    put_next old 0 b2 w2 (omega arith) 260 (omega arith) (u32_bytes s.faults) c.put-2.ensures
     ∙ put_whole old (state_bytes s) (length-state s ∙ sym size)

@@ -1,6 +1,6 @@
 -- The loop takes the lowest member off `left` and joins its row to a: the rows that m names are always those in a and those that
 -- `left` names. The measure is `left` itself, a smaller number with each member fewer.
-use Prim.Native.Nat.{◌<◌, ◌^◌}
+use Rattle.std.proofs.Common.{◌<◌, ◌^◌}
 use Rattle.mask.proofs.LoopsLaws.{Gathering}
 use Rattle.mask.proofs.gather.Given as goal
 

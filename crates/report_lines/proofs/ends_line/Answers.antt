@@ -1,21 +1,18 @@
 -- The word, the numbers and the newline, for either case.
-use mathlib.Core.Path.{refl}
-use native.Mathlib.Omega.{arith}
+use Rattle.std.proofs.Common.{arith}
 use borrow.Author.Tests.{eq-eqb, ne_eqb}
 use Rattle.report_lines.specs.FourLines.{ends_line}
-use Rattle.report_text.proofs.AddedLaws.{added_as, added_line}
+use Rattle.report_text.specs.Text.{letters}
+use Rattle.report_text.proofs.AddedLaws.{added_line}
 use Rattle.report_lines.proofs.ends_line.Goals as goal
-
-pub returns-then-faulty-eq0 : goal.returns-then-faulty-eq0
-unfolding ends_line
-returns-then-faulty-eq0 c =
-    added_as (added_line _ c.word-yes.ensures c.number-end.ensures c.push.ensures)
-    (rw (eq-eqb _ 0 c.if-faulty-eq0.true) refl)
-    (omega arith)
+use Rattle.report_lines.proofs.ends_line.Goals.{then-faulty-eq0, else-faulty-eq0}
 
 pub returns : goal.returns
 unfolding ends_line
 returns c =
-    added_as (added_line _ c.word-no.ensures c.members-end.ensures c.push-2.ensures)
-    (rw (ne_eqb _ 0 c.if-faulty-eq0.false) refl)
-    (omega arith)
+    elim c.if-faulty-eq0.branch [
+      | then-faulty-eq0 w ↦ rw (eq-eqb c.args.faulty 0 w.if-faulty-eq0.true)
+          (added_line (letters "ends yes") _ w.word.ensures w.number.ensures (rw (← w.text-is) c.push.ensures) (omega arith))
+      | else-faulty-eq0 w ↦ rw (ne_eqb c.args.faulty 0 w.if-faulty-eq0.false)
+          (added_line (letters "ends no") _ w.word-else-faulty-eq0.ensures w.members.ensures (rw (← w.text-is) c.push.ensures) (omega arith))
+    ]

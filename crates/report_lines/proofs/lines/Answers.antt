@@ -1,26 +1,34 @@
--- What was told of the book is the text that was laid.
-use mathlib.Core.Path.{ap, ◌∙◌}
-use native.Mathlib.Omega.{arith}
-use lib.ListN.{take}
-use lib.Seq.{length-take-le}
-use Rattle.table.specs.declared.Answer.{Answer}
-use Rattle.report_lines.specs.Lines.{laid}
-use borrow.Author.Rules.{rules}
+-- What was told of the book is the text that was laid, or nothing where it does not fit.
+use Rattle.std.proofs.Common.{ap, ap₂, ◌∙◌, arith, lt-ltb, le-ltb, List, ℕ, length}
+use Rattle.refusal.specs.Answer.{Answer}
+use Rattle.report_lines.specs.Lines.{Printed}
+use Rattle.report_lines.proofs.LinesLaws.{put_first}
 use Rattle.report_lines.proofs.lines.Goals as goal
 
-pub told-n-requires : goal.told-n-requires
-told-n-requires c = c.judge-a.ensures
+abbrev printed : Answer → ℕ → Printed
+printed a size = record { number = a.number; place = a.place; length = size }
 
-pub copy-requires : goal.copy-requires
-copy-requires c = search rules
+pub returns-then-out-n : goal.returns-then-out-n
+returns-then-out-n c =
+    let text = c.told-text.result.items in
+    let out = c.args.out.now in
+    record {
+      text = text;
+      printed = c.told-text.ensures;
+      most = omega (arith, c.len-n.ensures.value, c.len-n.ensures.fits);
+      is = rw (lt-ltb (length out) (length text) (omega (arith, c.len-n.ensures.value, c.if-out-n.true)))
+          (ap (λ (a : Answer). (printed a 0, out)) c.judge-read.ensures);
+    }
 
 pub returns : goal.returns
 returns c =
-    let buffer = c.told-n.new.out in
-    let text = take c.told-n.result buffer in
+    let text = c.told-text.result.items in
+    let out = c.args.out.now in
     record {
       text = text;
-      printed = c.told-n.ensures.text;
-      most = omega (arith, length-take-le c.told-n.result buffer (search rules), c.told-n.ensures.most);
-      is = c.copy.ensures ∙ ap (λ (a : Answer). laid a c.args.out.now text) c.judge-a.ensures;
+      printed = c.told-text.ensures;
+      most = omega (arith, c.len-n.ensures.value, c.len-n.ensures.fits);
+      is = rw (le-ltb (length out) (length text) (omega (arith, c.len-n.ensures.value, c.if-out-n.false)))
+          (ap₂ (λ (p : Printed) (d : List ℕ). (p, d)) (ap₂ printed c.judge-read.ensures c.len-n.ensures.value)
+          (put_first out text c.len-n.ensures.value (c.copy_from_slice.ensures.after ∙ c.as_slice.ensures.value)));
     }

@@ -1,23 +1,20 @@
 -- The word and the count, then the newline or the first pair and its culprits.
-use mathlib.Core.Path.{refl}
-use native.Mathlib.Omega.{arith}
+use Rattle.std.proofs.Common.{arith}
 use borrow.Author.Tests.{eq-eqb, ne_eqb}
 use Rattle.report_lines.specs.FourLines.{pairs_line}
-use Rattle.report_text.proofs.AddedLaws.{added_as, added_numbers, added_line}
+use Rattle.report_text.specs.Text.{letters}
+use Rattle.report_text.proofs.AddedLaws.{added_numbers, added_line}
 use Rattle.report_lines.proofs.pairs_line.Goals as goal
-
-pub returns-then-v-eq0 : goal.returns-then-v-eq0
-unfolding pairs_line
-returns-then-v-eq0 c =
-    added_as (added_line _ c.word-word.ensures c.number-failing.ensures c.push.ensures)
-    (rw (c.wider.ensures, eq-eqb _ 0 c.if-v-eq0.true) refl)
-    (omega arith)
+use Rattle.report_lines.proofs.pairs_line.Goals.{in-Some, in_default}
 
 pub returns : goal.returns
 unfolding pairs_line
 returns c =
-    let first = added_numbers _ _ c.number-failing.ensures c.two_numbers-first.ensures in
-    let numbers = added_numbers _ _ first c.two_numbers-end.ensures in
-    added_as (added_line _ c.word-word.ensures numbers c.push-2.ensures)
-    (rw (c.wider.ensures, ne_eqb _ 0 c.if-v-eq0.false) refl)
-    (omega arith)
+    elim c.match-v.branch [
+      | in-Some w ↦ rw (← c.from.ensures, ne_eqb c.from.result 0 (λ z. omega (arith, z, c.from.ensures, c.args.v.now.some w.in-Some.pair w.in-Some.is)), w.in-Some.is)
+          (added_line (letters "pairs") _ c.word.ensures
+          (added_numbers _ _ (added_numbers _ _ c.number.ensures w.two_numbers.ensures) w.two_numbers-in-Some.ensures)
+          (rw (← w.text-is) c.push.ensures) (omega arith))
+      | in_default w ↦ rw (← c.from.ensures, eq-eqb c.from.result 0 (omega (arith, c.from.ensures, c.args.v.now.none w.in_default.is)))
+          (added_line (letters "pairs") _ c.word.ensures c.number.ensures (rw (← w.text-is) c.push.ensures) (omega arith))
+    ]

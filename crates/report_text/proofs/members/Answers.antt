@@ -13,8 +13,8 @@ use Rattle.report_text.proofs.members.Goals as goal
 use Rattle.report_text.proofs.members.Goals.{else-has, then-has}
 use Rattle.report_text.proofs.members.Invariants.{below}
 
-next : (m i : ℕ) {d : List ℕ} {at : ℕ} {e : List ℕ} {p : ℕ} → Added d at (spaced (below m i)) (11 * i) e p → (b : Bool) → has m i ≡ b
-    → {f : List ℕ} {q : ℕ} → Added e p (spaced (cond b (i ∷ []) [])) 11 f q → Added d at (spaced (below m (i + 1))) (11 * (i + 1)) f q
+next : (m i : ℕ) {d e : List ℕ} → Added (spaced (below m i)) (11 * i) d e → (b : Bool) → has m i ≡ b
+    → {f : List ℕ} → Added (spaced (cond b (i ∷ []) [])) 11 e f → Added (spaced (below m (i + 1))) (11 * (i + 1)) d f
 next m i h b e g =
     let more = ap (λ (x : Bool). below m i ++ cond x (i ∷ []) []) (sym e) in
     added_as (added_numbers (below m i) (cond b (i ∷ []) []) h g)
@@ -23,7 +23,7 @@ next m i h b e g =
 
 pub loop-i-init : goal.loop-i-init
 unfolding joined spaced
-loop-i-init c = (omega arith, c.requires, added_none c.args.out.now c.args.at)
+loop-i-init c = (omega arith, added_none c.args.text.now.items)
 
 pub loop-i-preserved : goal.loop-i-preserved
 unfolding spaced
@@ -32,11 +32,10 @@ loop-i-preserved c =
     let at = c.loop-i in
     let told = c.has.ensures in (
       omega arith,
-      at.invariant.1,
       elim c.if-has.branch [
-        | then-has w ↦ rw (w.out-is, w.end-is) (next m at.i at.invariant.2 true (sym told ∙ w.if-has.true) w.number-end.ensures)
-        | else-has w ↦ rw (w.out-is, w.end-is)
-            (next m at.i at.invariant.2 false (sym told ∙ w.if-has.false) (added_as (added_none at.out at.end) refl (omega arith)))
+        | then-has w ↦ rw (w.text-is) (next m at.i at.invariant.1 true (sym told ∙ w.if-has.true) w.number.ensures)
+        | else-has w ↦ rw (w.text-is)
+            (next m at.i at.invariant.1 false (sym told ∙ w.if-has.false) (added_as (added_none at.text.items) refl (omega arith)))
       ],
     )
 
@@ -45,4 +44,4 @@ unfolding members
 returns c =
     let at = c.loop-i in
     let e : at.i ≡ 32 = omega arith in
-    added_as at.invariant.2 (ap (λ (i : ℕ). spaced (below c.args.m i)) e) (omega arith)
+    added_as at.invariant.1 (ap (λ (i : ℕ). spaced (below c.args.m i)) e) (omega arith)

@@ -1,13 +1,10 @@
 use mathlib.Core.Path.{refl}
-use Rattle.mask.proofs.LoopsLaws.{sought_none, sought_more, sought_all}
+use Prim.Native.Nat.{◌+◌, ◌*◌}
+use lib.Dec.{eqb}
+use Rattle.mask.proofs.AnyLaws.{some_of_any}
+use Rattle.little.specs.Little.{byte_at}
 use borrow.Author.Rules.{rules}
 use Rattle.rule_check.proofs.target_taken.Goals as goal
 
-pub loop-i-init : goal.loop-i-init
-loop-i-init c = (search rules, sought_none)
-
-pub loop-i-preserved : goal.loop-i-preserved
-loop-i-preserved c = (search rules, sought_more c.loop-i.invariant.1 refl)
-
 pub returns : goal.returns
-returns c = sought_all c.loop-i.invariant.1 c.loop-i.invariant.0 c.loop-i-test.false
+returns c = some_of_any c.args.j (λ i. eqb (byte_at c.args.s.now (c.args.p + 20 * i)) (byte_at c.args.s.now (c.args.p + 20 * c.args.j))) _ _ c.any.result refl c.any.ensures.ran (λ x b q k. search rules)

@@ -13,6 +13,7 @@ use Rattle.rule.specs.Empty.{no_test, no_assign}
 use Rattle.rule.specs.Uses.{test_at, assign_at, test_reads, side_reads, reads}
 use Rattle.rule_read.specs.Parts.{test_in, assign_in, rule_of}
 use Rattle.rule_uses.proofs.UsesLaws.{out-filled}
+use borrow.Author.Rules.{rules}
 use Rattle.rule_uses.proofs.reads.Goals as goal
 
 pub returns : goal.returns
@@ -27,12 +28,12 @@ returns c =
     let l = ltb x 32 in
     let tested = some r.t (λ j. test_reads (test_at r j) x) in
     let sided = some r.a (λ j. side_reads (assign_at r j) x) in
-    let tests : has c.tests_read.result x ≡ (l && tested) =
-    c.tests_read.ensures x
+    let tests : has c.united.result x ≡ (l && tested) =
+    c.united.ensures (λ j y. ltb y 32 && test_reads (test_in s (at + 12 + 12 * j)) y) (λ j q h k y. search rules) x
     ∙ rw c.count_at-ct.ensures
     (out-filled l r.t no_test (λ j. test_in s (at + 12 + 12 * j)) t (λ (y : Test). test_reads y x) c.requires.1) in
-    let sides : has c.sides_read.result x ≡ (l && sided) =
-    c.sides_read.ensures x
+    let sides : has c.united-2.result x ≡ (l && sided) =
+    c.united-2.ensures (λ j y. ltb y 32 && side_reads (assign_in s (at + 12 + 12 * t + 20 * j)) y) (λ j q h k y. search rules) x
     ∙ rw c.count_at-ca.ensures
     (out-filled l r.a no_assign (λ j. assign_in s (at + 12 + 12 * t + 20 * j)) a (λ (y : Assign). side_reads y x) c.requires.2) in
-    has-or c.tests_read.result c.sides_read.result x ∙ ap₂ ◌||◌ tests sides ∙ sym (and-or_distrib_left l tested sided)
+    has-or c.united.result c.united-2.result x ∙ ap₂ ◌||◌ tests sides ∙ sym (and-or_distrib_left l tested sided)

@@ -1,16 +1,16 @@
 -- The left cell, and the right cell where the kind is 1.
-use mathlib.Core.Path.{ap, ap₂, ◌∙◌}
-use mathlib.Core.Bool.{◌||◌, ◌&&◌}
+use mathlib.Core.Path.{sym, ap₂, ◌∙◌}
+use mathlib.Core.Bool.{◌||◌, and-or_distrib_left}
 use lib.Dec.{eqb, ltb}
 use Rattle.mask.proofs.BitsLaws.{has-or}
-use Rattle.rule_uses.proofs.UsesLaws.{out}
+use borrow.Author.Rules.{rules}
 use Rattle.rule_uses.proofs.test_reads.Goals as goal
 
-pub returns : goal.returns
-returns c =
+pub returns-in-Ok-Cell : goal.returns-in-Ok-Cell
+returns-in-Ok-Cell c =
     let t = c.args.t in
     λ x.
-    has-or c.cell.result c.kept.result x
-    ∙ ap₂ ◌||◌ (c.cell.ensures x)
-    (c.kept.ensures x ∙ ap (λ b. eqb t.kind 1 && b) (c.cell-2.ensures x))
-    ∙ out (ltb x 32) (eqb x t.left) (eqb t.kind 1) (eqb x t.right)
+    has-or c.cell.result c.cell-in-Ok-Cell.result x
+    ∙ (ap₂ ◌||◌ (c.cell.ensures x) (c.cell-in-Ok-Cell.ensures x)
+    ∙ (sym (and-or_distrib_left (ltb x 32) (eqb x t.left) (eqb x t.right))
+    ∙ search rules))

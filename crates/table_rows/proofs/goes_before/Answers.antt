@@ -11,4 +11,4 @@ pub returns : goal.returns
 unfolding goes_before table_from
 returns c r s =
     c.closure.ensures r s
-    ∙ ap₂ (λ (q : List ℕ) (n : ℕ). leads q n r s) c.precedes.ensures c.requires.1
+    ∙ ap₂ (λ (q : List ℕ) (n : ℕ). leads q n r s) c.precedes.ensures c.from.ensures

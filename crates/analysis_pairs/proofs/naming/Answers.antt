@@ -1,0 +1,5 @@
+use Rattle.std.proofs.Common.{rules}
+use Rattle.analysis_pairs.proofs.naming.Goals as goal
+
+pub returns : goal.returns
+returns c r l = let h = c.such.ensures.below r l in search rules

@@ -1,0 +1,2 @@
+-- Laws that `editor_check` stands on.
+pub mod FirstBeyondLaws

@@ -1,0 +1,2 @@
+-- Laws that `machine` stands on.
+pub mod CallsLaws

@@ -1,0 +1,2 @@
+-- Laws that `machine_run` stands on and passes on to other crates.
+pub mod RunsLaws

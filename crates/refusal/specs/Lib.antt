@@ -1,0 +1,3 @@
+-- What contracts cite of refusals.
+pub mod Answer
+pub mod RefusalNumbers

@@ -1,0 +1,2 @@
+-- What the contracts of `report_masks` cite: `ReportMasksInner` is for inner functions alone.
+pub mod ReportMasksInner
