@@ -30,6 +30,15 @@ fn writes(table: &[u8; 9092], r: usize) -> u32
     rule_uses::writes(table, 4 + 284 * r, 8, 8)
 }
 
+// The row of what each rule writes.
+#[tactic(auto, using(crate::proofs::TableMasksLaws::few_rules))]
+fn written(table: &[u8; 9092]) -> [u32; 32]
+    requires { Sound (table_from table.now) }
+    ensures { result ≡ (masks_of (table_from table.now)).writes }
+{
+    mask::row(usize::from(table[1]), |r| writes(table, r))
+}
+
 // The four rows of masks of a sound table.
 #[tactic(auto, using(crate::proofs::TableMasksLaws::few_rules))]
 fn masks(table: &[u8; 9092]) -> Masks
@@ -41,7 +50,7 @@ fn masks(table: &[u8; 9092]) -> Masks
         n,
         watch: table_rows::watches(table),
         reads: mask::row(n, |r| reads(table, r)),
-        writes: mask::row(n, |r| writes(table, r)),
+        writes: written(table),
         precedes: table_rows::precedes(table),
     }
 }
@@ -55,10 +64,12 @@ pub fn report(table: &[u8; 9092]) -> Result<Findings, Refusal>
     Ok(Findings { summary, marks })
 }
 
+#[tactic(auto, using(crate::proofs::TableMasksLaws::few_rules))]
 pub fn bound(table: &[u8; 9092], set: u32) -> Result<u32, Refusal>
     ensures { BoundSays (table_from table.now) set (bound_of result) }
 {
     table::check(table)?;
-    let m = masks(table);
-    analysis_masks::rows::bound(m.n, &m.watch, &m.writes, set)
+    // Two of the four rows, and not `masks`, which makes them all.
+    let n = usize::from(table[1]);
+    analysis_masks::rows::bound(n, &table_rows::watches(table), &written(table), set)
 }

@@ -69,7 +69,14 @@ pub fn filled(relations: &Relations, n: usize, q: &mut [u8; 496])
 pub fn count_failing(q: &[u8; 496]) -> u16
     ensures { result ≡ count 496 (fails_at q.now) }
 {
-    q.iter().filter(|m| **m == 2).count() as u16
+    let mut failing = 0;
+    // A loop that looks at all: `filter` and `count` take one mark at a time, and several times as long.
+    for m in q.iter() {
+        if *m == 2 {
+            failing += 1;
+        }
+    }
+    failing
 }
 
 // The pair whose mark stands at k: whole rows are passed as long as there are.
@@ -93,7 +100,8 @@ pub fn first_failing(relations: &Relations, q: &[u8; 496]) -> Option<Failing>
     requires { Twos (rules_by relations.now) q.now }
     ensures { FirstFound (rules_by relations.now) q.now result }
 {
-    let k = q.iter().position(|m| *m == 2)?;
+    // All the marks, written as a part: a must-fail edit begins it one mark later.
+    let k = q[0..].iter().position(|m| *m == 2)?;
     let (i, j) = pair_at(k);
     let culprits = relations.judge(i, j)?;
     Some(Failing {

@@ -54,8 +54,11 @@ fn spread(s: &[u8], out: &mut [u8; 9092])
 pub fn read(book: &[u8], table: &mut [u8; 9092]) -> Result<(), Refusal>
     ensures { Spread (read_of book.now) (answer_of result) table.new }
 {
-    table.fill(0);
-    book_judge::judge(book)?;
-    spread(book, table);
-    Ok(())
+    let read = book_judge::judge(book);
+    // Either way each byte of the table is written, and once.
+    match read {
+        Ok(()) => spread(book, table),
+        Err(_) => table.fill(0),
+    }
+    read
 }

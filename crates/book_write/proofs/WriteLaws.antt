@@ -21,6 +21,8 @@ use Rattle.book_write.specs.Write.{Written, written, written_of, write_of, size_
 use Rattle.std.proofs.Common.{Result, Ok, Err}
 use Rattle.std.specs.Result.{result_unwrap_or}
 use Rattle.refusal.specs.declared.Refusal.{Refusal}
+use Rattle.refusal.specs.Answer.{Answer}
+use Rattle.refusal.specs.RefusalNumbers.{answer_of}
 use Rattle.refusal.proofs.RefusalLaws.{not_done, refusal_unique}
 
 -- the length beside a refusal is 0
@@ -32,6 +34,12 @@ module _ (t : Table) where
   pub size-refused : ((check_of t).number ≡ 0 → ⊥) → size_of t ≡ written (check_of t).number (check_of t).place 0
   unfolding size_of
   size-refused ne = rw (ne_eqb (check_of t).number 0 ne)
+
+  -- what the check refuses has no size, and is told as the check told it
+  pub size_told : (e : Refusal) → answer_of {A = Unit {0}} (Err e) ≡ check_of t → written_of (Err e) ≡ size_of t
+  size_told e told =
+      ap (λ (a : Answer). written a.number a.place 0) told
+      ∙ sym (size-refused (λ z. not_done e (ap (λ (a : Answer). a.number) told ∙ z)))
 
   pub size-done : (check_of t).number ≡ 0 → size_of t ≡ written 0 255 (length (book_of t))
   unfolding size_of

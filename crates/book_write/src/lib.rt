@@ -8,6 +8,8 @@ ghost use Rattle.book_write.specs.Write.{written_of, write_of, size_of};
 use refusal::Refusal;
 
 // How long a buffer must be: the book's length.
+// `size_told` for every return of a refusal, that of a must-fail edit too.
+#[tactic(auto, using(crate::proofs::WriteLaws::size_told))]
 pub fn size(table: &[u8; 9092]) -> Result<usize, Refusal>
     ensures { written_of result ≡ size_of (table_from table.now) }
 {

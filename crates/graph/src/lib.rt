@@ -12,10 +12,10 @@ fn through(q: &mut [u32; 32], k: usize)
     ensures { Through q.old k q.new }
 {
     let row = q[k];
+    // Each mask is stored, changed or not: behind a test they would be stored one by one, which takes several times as long.
     for m in q.iter_mut() {
-        if mask::has(*m, k) {
-            *m |= row;
-        }
+        let more = if mask::has(*m, k) { row } else { 0 };
+        *m |= more;
     }
 }
 

@@ -13,7 +13,7 @@ pub fn report(table: &[u8; 9092], out: &mut [u8; 512]) -> u32
     ensures { Crosses (ReportSays (table_from table.now)) report_out (result, out.new) }
 {
     let judged = analysis::report(table);
-    layout_report::store_report(&judged, out);
+    layout_report::store_found(&judged, out);
     layout_code::answer(&judged)
 }
 
@@ -40,6 +40,6 @@ pub fn rows(rows: &[u8], out: &mut [u8; 512]) -> u32
     ensures { Crosses (RowsSay (row_masks (rows_in rows.now))) report_out (result, out.new) }
 {
     let row = editor::report_of_bytes(rows);
-    layout_report::store_report(&row, out);
+    layout_report::store_found(&row, out);
     layout_code::answer(&row)
 }

@@ -1,2 +1,3 @@
 -- What the contracts of `layout_report` cite.
 pub mod Layout
+pub mod LayoutReportInner

@@ -41,7 +41,9 @@ fn put_cells(out: &mut [u8], cells: [i64; 32])
 pub fn store_state(s: State, out: &mut [u8; 264])
     ensures { out.new ≡ state_bytes s }
 {
-    put_cells(out, s.cells);
+    // The cells last: stored first, right after they were loaded from other lent memory, they would be moved by memmove, which the
+    // archive for C needs for nothing else.
     s.waiting.put(out, 256);
     s.faults.put(out, 260);
+    put_cells(out, s.cells);
 }

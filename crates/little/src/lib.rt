@@ -105,7 +105,10 @@ pub fn put_bytes(out: &mut [u8], at: usize, s: &[u8])
     requires { at + length s.now ≤ length out.old }
     ensures { out.new ≡ put out.old at s.now }
 {
-    out[at..at + s.len()].copy_from_slice(s);
+    // A loop: `copy_from_slice` would have the archive for C ask for memmove, which it needs for nothing else.
+    for (j, b) in s.iter().enumerate() {
+        out[at + j] = *b;
+    }
 }
 
 // The n bytes of s from `from` on.

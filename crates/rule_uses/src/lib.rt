@@ -34,10 +34,8 @@ fn kept(b: bool, m: u32) -> u32
 fn test_reads(t: Test) -> u32
     ensures { (x : ℕ) → has result x ≡ (ltb x 32 && test_reads t x) }
 {
-    match Side::try_from(t.kind) {
-        Ok(Side::Cell) => cell(t.left) | cell(t.right),
-        _ => cell(t.left),
-    }
+    let side = Side::try_from(t.kind);
+    cell(t.left) | kept(side == Ok(Side::Cell), cell(t.right))
 }
 
 fn side_reads(s: Assign) -> u32

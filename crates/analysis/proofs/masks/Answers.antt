@@ -1,6 +1,6 @@
 -- The four rows are those of the table's masks.
 use Rattle.std.proofs.Common.{rules, arith}
-use Rattle.rule.specs.Uses.{reads, writes}
+use Rattle.rule.specs.Uses.{reads}
 use Rattle.table.specs.Memory.{table_from}
 use Rattle.analysis.specs.TableMasks.{cells_of}
 use Rattle.analysis.proofs.TableMasksLaws.{rule-row, rows_of_lem}
@@ -13,6 +13,4 @@ returns c =
     let t = table_from s in
     let read = rule-row s c.requires (cells_of reads t) c.row.result c.row.ensures.size
     (λ i l. let h = c.row.ensures.below i (omega arith) in search rules) (λ i l. c.row.ensures.beyond i (omega arith)) in
-    let written = rule-row s c.requires (cells_of writes t) c.row-2.result c.row-2.ensures.size
-    (λ i l. let h = c.row-2.ensures.below i (omega arith) in search rules) (λ i l. c.row-2.ensures.beyond i (omega arith)) in
-    rows_of_lem t c.from-n.ensures c.watches.ensures read written c.precedes.ensures
+    rows_of_lem t c.from-n.ensures c.watches.ensures read c.written.ensures c.precedes.ensures

@@ -1,5 +1,5 @@
 -- The first mark 2 belongs to a pair that fails, so judging it again gives its culprits.
-use Rattle.std.proofs.Common.{◌≡◌, ℕ, ◌<◌, false, true, List, Option, eqb, ap, ◌∙◌, rules, tests, arith}
+use Rattle.std.proofs.Common.{◌≡◌, ℕ, ◌<◌, false, true, List, Option, eqb, ap, ◌∙◌, rules, tests, arith, take_all}
 use Rattle.std.specs.Prelude.{MatchOption}
 use Rattle.mask.specs.Search.{least_at}
 use Rattle.mask.proofs.AnyLaws.{least_of_position-slice, least_cases}
@@ -20,7 +20,7 @@ first : (c : After-position) → FirstTwo c.args.q.now c.position.result
 first c =
     let q = c.args.q.now in
     least_cases 496 (fails_at q) c.position.result
-    (least_of_position-slice q 0 (λ m. eqb m 2) _ _ _ (cc) c.position.ensures.ran (λ x b p k. search (rules, tests))
+    (least_of_position-slice {s = c.iter.result} q 0 (λ m. eqb m 2) _ _ _ (rw c.iter.ensures.rest (take_all 496 q (omega (arith, c.told-q)))) c.position.ensures.ran (λ x b p k. search (rules, tests))
     ∙ ap (λ (n : ℕ). least_at n (fails_at q)) c.told-q)
 
 pub returns-in_err-k : goal.returns-in_err-k

@@ -2,7 +2,6 @@
 use Rattle.std.proofs.Common.{◌≡◌, ℕ, sym, ap, ◌∙◌, arith}
 use Rattle.std.proofs.lemmas.Result.{err_from_is_err_and}
 use Rattle.refusal.specs.Answer.{Answer}
-use Rattle.refusal.proofs.RefusalLaws.{not_done}
 use Rattle.table.specs.Table.{Table}
 use Rattle.table.specs.Check.{check_of}
 use Rattle.table.specs.Memory.{table_from}
@@ -13,17 +12,14 @@ use Rattle.book_parts.proofs.PartsLaws.{ready}
 use Rattle.book_parts.proofs.BodyWriteLaws.{count-from}
 use Rattle.book_write.specs.Write.{written}
 use Rattle.book_write.proofs.BookLaws.{length-book}
-use Rattle.book_write.proofs.WriteLaws.{size-refused, size-done}
+use Rattle.book_write.proofs.WriteLaws.{size_told, size-done}
 use Rattle.book_write.proofs.size.Goals as goal
 use Rattle.book_write.proofs.size.Goals.{After-from}
 
 pub returns-in_err-check : goal.returns-in_err-check
 returns-in_err-check c =
     let p = err_from_is_err_and c.from_residual.result c.from_residual.ensures.1 in
-    let told = c.in_err-check.ensures in
-    let t = table_from c.args.table.now in
-    rw (p.1, p.2)
-    (sym (size-refused t (λ z. not_done _ (ap (λ (a : Answer). a.number) told ∙ z)) ∙ ap (λ (a : Answer). written a.number a.place 0) (sym told)))
+    rw (p.1, p.2) (size_told (table_from c.args.table.now) _ c.in_err-check.ensures)
 
 module _ (c : After-from) where
   abbrev T : Table

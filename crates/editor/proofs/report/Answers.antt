@@ -1,5 +1,5 @@
 -- More than 32 records are refused; else what is put into the arrays are the masks of the row.
-use Rattle.std.proofs.Common.{◌≤◌, ℕ, rules, refl, subst, length, get_or}
+use Rattle.std.proofs.Common.{◌≤◌, ◌<◌, ℕ, arith, rules, refl, subst, length, get_or}
 use Rattle.analysis_pairs.specs.declared.Masks.{Masks}
 use Rattle.analysis_masks.specs.Found.{report_of}
 use Rattle.rule.proofs.FillLaws.{is_filled}
@@ -9,13 +9,15 @@ use Rattle.editor.proofs.CopyingLaws.{masks_are, many-refused}
 use Rattle.editor.proofs.report.Goals as goal
 
 pub returns-then-rows-gt32 : goal.returns-then-rows-gt32
-returns-then-rows-gt32 c = many-refused (row_masks c.args.rows.now) _ c.if-rows-gt32.true refl
+returns-then-rows-gt32 c =
+    let many : 32 < length c.args.rows.now = omega (arith, c.if-rows-gt32.true) in
+    many-refused (row_masks c.args.rows.now) _ many refl
 
 pub returns : goal.returns
 returns c =
     let rows = c.args.rows.now in
     let n = length rows in
-    let few : n ≤ 32 = c.if-rows-gt32.false in
+    let few : n ≤ 32 = omega (arith, c.if-rows-gt32.false) in
     let row = c.row.ensures in
     let row-2 = c.row-2.ensures in
     let row-3 = c.row-3.ensures in

@@ -7,9 +7,14 @@ use Rattle.graph.proofs.through.Goals as goal
 use Rattle.graph.proofs.through.Goals.{then-has, else-has}
 
 -- a mask v that was u, with k's mask where it has k
-joined : (k row u v : ℕ) → v ≡ u → (b : Bool) → b ≡ has v k → (s : ℕ) → has (cond b (bit_or v row) v) s ≡ (has u s || (has u k && has row s))
-joined k row u v e true h s = rw (← e, ← h) (has-or v row s)
-joined k row u v e false h s = rw (← e, ← h) (sym (or-false (has v s)))
+joined : (k row u v : ℕ) → v ≡ u → (b : Bool) → b ≡ has v k → (more : ℕ) → more ≡ cond b row 0 → (s : ℕ)
+    → has (bit_or v more) s ≡ (has u s || (has u k && has row s))
+joined k row u v e true h more m s = rw (← e, ← h, m) (has-or v row s)
+joined k row u v e false h more m s = rw (← e, ← h, m) (has-or v 0 s ∙ ap (λ (b : Bool). has v s || b) (has-zero s))
+
+-- a mask without k stays
+stays : (k row v : ℕ) → has v k ≡ false → (s : ℕ) → has v s ≡ (has v s || (has v k && has row s))
+stays k row v h s = rw h (sym (or-false (has v s)))
 
 pub loop-m-preserved : goal.loop-m-preserved
 loop-m-preserved c =
@@ -17,10 +22,11 @@ loop-m-preserved c =
     let k = c.args.k in
     let p = c.args.q.now in
     let go = joined k (get_or p k 0) (get_or p at.m-index 0) (get_or at.q at.m-index 0) (at.invariant.rest _ (omega arith)) in
-    elim c.if-has.branch [
-      | then-has w ↦ rw w.q-is (upto-store _ _ _ _ _ (omega arith) at.invariant (go true (sym w.if-has.true ∙ c.has.ensures)))
-      | else-has w ↦ rw w.q-is (upto-store _ _ _ _ _ (omega arith) at.invariant (go false (sym w.if-has.false ∙ c.has.ensures)))
-    ]
+    upto-store _ _ _ _ _ (omega arith) at.invariant
+    (elim c.if-has.branch [
+      | then-has w ↦ go true (sym w.if-has.true ∙ c.has.ensures) _ w.more-is
+      | else-has w ↦ go false (sym w.if-has.false ∙ c.has.ensures) _ w.more-is
+    ])
 
 pub returns : goal.returns
 returns c =
@@ -28,5 +34,5 @@ returns c =
     let k = c.args.k in
     record {
       size = c.loop-m.invariant.len;
-      masks = upto_all _ _ _ _ c.loop-m.invariant (omega arith) (λ x l z. joined k (get_or p k 0) _ _ refl false (sym (ap (λ (v : ℕ). has v k) z ∙ has-zero k)));
+      masks = upto_all _ _ _ _ c.loop-m.invariant (omega arith) (λ x l z. stays k (get_or p k 0) (get_or p x 0) (ap (λ (v : ℕ). has v k) z ∙ has-zero k));
     }

@@ -1,13 +1,16 @@
--- The cells, and the two masks where they end: in the end nothing of the old bytes is left.
-use mathlib.Core.Path.{◌≡◌, sym, ◌∙◌}
-use mathlib.Core.List.{◌++◌}
+-- The two masks, and the cells before them: in the end nothing of the old bytes is left.
+use mathlib.Core.Path.{◌≡◌, sym, ap, ◌∙◌}
+use mathlib.Core.List.{List, ◌++◌, append_assoc}
+use Prim.Native.Nat.{ℕ, ◌+◌, ◌≤◌}
 use native.Mathlib.Omega.{arith}
-use lib.ListN.{length}
+use lib.ListN.{length, length-append}
 use borrow.Author.Rules.{rules}
-use Rattle.little.proofs.PutLaws.{put_next, put_whole}
+use Rattle.little.specs.Put.{put}
 use Rattle.little.specs.Bytes.{u32_bytes}
+use Rattle.little.proofs.BytesLaws.{length_u32}
+use Rattle.little.proofs.PutLaws.{put_next, put_before, put_whole}
 use Rattle.layout_state.specs.States.{cells_bytes, state_bytes}
-use Rattle.layout_state.proofs.StatesLaws.{length-cells, length_front, length-state}
+use Rattle.layout_state.proofs.StatesLaws.{length-cells, length-state}
 use Rattle.layout_state.proofs.store_state.Goals as goal
 
 pub returns : goal.returns
@@ -17,11 +20,16 @@ returns c =
     let s = a.s in
     let old = a.out.now in
     let size : length old ≡ 264 = search rules in
-    let b1 = cells_bytes s.cells 32 in
-    let b2 = b1 ++ u32_bytes s.waiting in
-    let n1 : length b1 ≡ 256 = length-cells s.cells 32 in
-    let n2 : length b2 ≡ 260 = length_front s.cells s.waiting in
-    let w2 = put_next old 0 b1 c.put_cells.ensures (omega arith) 256 (omega arith) (u32_bytes s.waiting)
-    c.put.ensures in
-    put_next old 0 b2 w2 (omega arith) 260 (omega arith) (u32_bytes s.faults) c.put-2.ensures
-    ∙ put_whole old (state_bytes s) (length-state s ∙ sym size)
+    let cells = cells_bytes s.cells 32 in
+    let w = u32_bytes s.waiting in
+    let f = u32_bytes s.faults in
+    let n : length cells ≡ 256 = length-cells s.cells 32 in
+    let m : length w ≡ 4 = length_u32 s.waiting in
+    let k : length f ≡ 4 = length_u32 s.faults in
+    let masks : c.put-2.new.out ≡ put old 256 (w ++ f) = put_next old 256 w c.put.ensures (omega arith) 260 (omega arith) f c.put-2.ensures in
+    let fits : 256 + length (w ++ f) ≤ length old = rw (length-append) (omega arith) in
+    c.put_cells.ensures
+    ∙ (ap (λ (d : List ℕ). put d 0 cells) masks
+    ∙ (put_before old cells 256 (sym n) (w ++ f) fits
+    ∙ (ap (put old 0) (sym (append_assoc cells w f))
+    ∙ put_whole old (state_bytes s) (length-state s ∙ sym size))))

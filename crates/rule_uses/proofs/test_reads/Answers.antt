@@ -1,16 +1,19 @@
 -- The left cell, and the right cell where the kind is 1.
-use mathlib.Core.Path.{sym, ap₂, ◌∙◌}
-use mathlib.Core.Bool.{◌||◌, and-or_distrib_left}
-use lib.Dec.{eqb, ltb}
+use Rattle.std.proofs.Common.{◌≡◌, Bool, true, false, ◌&&◌, ◌||◌, eqb, ltb, refl, ap₂, ◌∙◌, rules, tests}
 use Rattle.mask.proofs.BitsLaws.{has-or}
-use borrow.Author.Rules.{rules}
 use Rattle.rule_uses.proofs.test_reads.Goals as goal
 
-pub returns-in-Ok-Cell : goal.returns-in-Ok-Cell
-returns-in-Ok-Cell c =
+-- what both sets have below 32
+out : (l a k b : Bool) → ((l && a) || (k && (l && b))) ≡ (l && (a || (k && b)))
+out true a k b = refl
+out false a true b = refl
+out false a false b = refl
+
+pub returns : goal.returns
+returns c =
     let t = c.args.t in
+    let kind : c.eq.result ≡ eqb t.kind 1 = search (rules, tests) in
     λ x.
-    has-or c.cell.result c.cell-in-Ok-Cell.result x
-    ∙ (ap₂ ◌||◌ (c.cell.ensures x) (c.cell-in-Ok-Cell.ensures x)
-    ∙ (sym (and-or_distrib_left (ltb x 32) (eqb x t.left) (eqb x t.right))
-    ∙ search rules))
+    has-or c.cell.result c.kept.result x
+    ∙ (ap₂ ◌||◌ (c.cell.ensures x) (c.kept.ensures x ∙ ap₂ ◌&&◌ kind (c.cell-2.ensures x))
+    ∙ out (ltb x 32) (eqb x t.left) (eqb t.kind 1) (eqb x t.right))
